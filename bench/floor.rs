@@ -1,5 +1,6 @@
-//! The least that a cancel-safe queue can do in one thread: the atomic steps of an insert and of what ends it, and a
-//! lock that nobody else wants. There is no list, and nothing is refused. The words lie as the queues have them.
+//! The least that a cancel-safe queue can do in one thread: the atomic steps of an insert and of
+//! what ends it, and a lock that nobody else wants. There is no list, and nothing is refused. The
+//! words lie as the queues have them.
 use std::sync::atomic::{AtomicU64, Ordering::SeqCst};
 use std::time::Instant;
 
@@ -37,7 +38,9 @@ struct Floor {
 
 impl Floor {
     fn new(irps: usize) -> Floor {
-        let words = || Words { cancel: AtomicU64::new(0), routine: AtomicU64::new(0), status: AtomicU64::new(0) };
+        let words = || Words {
+            cancel: AtomicU64::new(0), routine: AtomicU64::new(0), status: AtomicU64::new(0)
+        };
         Floor { lock: AtomicU64::new(0), irps: (0..irps).map(|_| words()).collect() }
     }
 

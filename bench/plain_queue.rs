@@ -1,9 +1,10 @@
-//! A plain queue of the same design, to time the proved one against: a mutex round a list of entries,
-//! the IRPs that were used, their lives and the files that were closed, and for each IRP a Cancel flag, a
-//! routine and a status in atomic words, each with the life that it stands for. It refuses what the
-//! proved one refuses, but for a file object's own limit, of which it keeps no count. With the word
-//! `counts` as the last it keeps that too, so that it can be seen what it costs; with `backoff` it also
-//! waits for its lock as the proved one does, with growing pauses before it sleeps.
+//! A plain queue of the same design, to time the proved one against: a mutex round a list of
+//! entries, the IRPs that were used, their lives and the files that were closed, and for each IRP a
+//! Cancel flag, a routine and a status in atomic words, each with the life that it stands for. It
+//! refuses what the proved one refuses, but for a file object's own limit, of which it keeps no
+//! count. With the word `counts` as the last it keeps that too, so that it can be seen what it
+//! costs; with `backoff` it also waits for its lock as the proved one does, with growing pauses
+//! before it sleeps.
 use std::collections::VecDeque;
 use std::hint::spin_loop;
 use std::sync::atomic::{AtomicU64, Ordering::SeqCst};
@@ -47,7 +48,8 @@ impl<const COUNTS: bool> List<COUNTS> {
         }
     }
 
-    /// Takes out the entry at an index: mostly the last or the first, for which there are shorter ways.
+    /// Takes out the entry at an index: mostly the last or the first, for which there are shorter
+    /// ways.
     fn remove_at(&mut self, at: usize) {
         let removed = if at + 1 == self.entries.len() {
             self.entries.pop_back()
@@ -143,7 +145,9 @@ impl<const COUNTS: bool, const BACKOFF: bool> Queue<COUNTS, BACKOFF> {
         list.push(irp, file);
         list.used[irp] = true;
         self.word(irp, Routine).swap(2 * life + 1, SeqCst);
-        if self.word(irp, Cancel).load(SeqCst) % 2 == 1 && self.word(irp, Routine).swap(2 * life, SeqCst) % 2 == 1 {
+        if self.word(irp, Cancel).load(SeqCst) % 2 == 1
+            && self.word(irp, Routine).swap(2 * life, SeqCst) % 2 == 1
+        {
             list.remove(irp);
             drop(list);
             self.complete(irp, life, CANCELLED);
@@ -228,8 +232,8 @@ enum End {
     Cancel,
 }
 
-/// What a turn does: its inserts are shared by so many threads, each with a file object of its own or all with one,
-/// while so many IRPs are listed beside them.
+/// What a turn does: its inserts are shared by this many threads, each with a file object of its
+/// own or all with one, while this many IRPs are listed beside them.
 #[derive(Clone, Copy)]
 struct Work {
     end: End,
@@ -261,8 +265,9 @@ impl Work {
         (first, first + own)
     }
 
-    /// The IRP that a thread inserts after this one, once one was completed: where any may be removed, the one
-    /// that was, so that each thread has one to insert; else the next of its own.
+    /// The IRP that a thread inserts after this one, once one was completed: where any may be
+    /// removed, the one that was, so that each thread has one to insert; otherwise the next of its
+    /// own.
     fn next(&self, own: (usize, usize), irp: usize, completed: usize) -> usize {
         if self.again && self.end == End::Next {
             completed
@@ -304,8 +309,8 @@ impl<const COUNTS: bool, const BACKOFF: bool> Queue<COUNTS, BACKOFF> {
         completed
     }
 
-    /// The shares of so many threads, of which the first has this number. They are started by halves, as the proved
-    /// queue's are.
+    /// The shares of this many threads, of which the first has this number. They are started by
+    /// halves, as the proved queue's are.
     fn shares(&self, work: &Work, threads: usize, first: usize) -> usize {
         if threads == 1 {
             return self.share(work, first);
@@ -339,7 +344,10 @@ fn read_work(words: &[String]) -> Work {
         word => panic!("{word} is no kind"),
     };
     let (threads, listed) = (words[2].parse().unwrap(), words[3].parse().unwrap());
-    assert!(matches!(threads, 1 | 2 | 4 | 8) && listed <= IRPS - REUSED_IRPS, "1, 2, 4 or 8 threads, at most 960 listed");
+    assert!(
+        matches!(threads, 1 | 2 | 4 | 8) && listed <= IRPS - REUSED_IRPS,
+        "1, 2, 4 or 8 threads, at most 960 listed"
+    );
     Work { end, again, threads, listed, owned: words[4] == "owned" }
 }
 

@@ -1,6 +1,7 @@
-//! A plain replayer of schedules and scripts, to time csqsim against: the same formats, written as one writes such a
-//! program in Rust. It answers what csqsim answers to a schedule in which no IRP is used again, and to a script of inserts,
-//! removals, marks and statuses alone; other steps and calls end it.
+//! A plain replayer of schedules and scripts, to time csqsim against: the same formats, written as
+//! one writes such a program in Rust. It answers what csqsim answers to a schedule in which no IRP
+//! is used again, and to a script of inserts, removals, marks and statuses alone; other steps and
+//! calls end it.
 use std::collections::VecDeque;
 use std::fmt::Write as _;
 use std::io::{Read, Write};
@@ -49,7 +50,8 @@ impl Machine {
         let now = self.passes[pass];
         let needs_lock = matches!(verb, "arm" | "test" | "disarm" | "end" | "out" | "renew");
         let next = match now {
-            Inside::Nothing => matches!(verb, "arm" | "disarm" | "end" | "flag" | "out" | "done" | "renew"),
+            Inside::Nothing =>
+                matches!(verb, "arm" | "disarm" | "end" | "flag" | "out" | "done" | "renew"),
             Inside::Armed(of) => verb == "test" && of == irp,
             Inside::FlagSeen(of) => verb == "disarm" && of == irp,
             Inside::Removing => matches!(verb, "disarm" | "end"),
@@ -67,7 +69,9 @@ impl Machine {
         let place = self.irps[irp].place;
         let cause = match verb {
             "arm" if place != Place::Home => "NotHome",
-            "disarm" if now != Inside::FlagSeen(irp) && !matches!(place, Place::Listed | Place::OwedBy(_)) => "NotListed",
+            "disarm"
+                if now != Inside::FlagSeen(irp)
+                    && !matches!(place, Place::Listed | Place::OwedBy(_)) => "NotListed",
             "out" if place != Place::OwedBy(pass) => "NotOwed",
             "done" if place != Place::HeldBy(pass) => "NotHeld",
             _ => return None,
@@ -145,7 +149,8 @@ fn parse_step(line: &str) -> Option<(usize, &str, usize)> {
         None if verb == "end" => 0,
         word => word?.parse().ok()?,
     };
-    let known = matches!(verb, "arm" | "test" | "disarm" | "end" | "flag" | "take" | "out" | "done");
+    let known =
+        matches!(verb, "arm" | "test" | "disarm" | "end" | "flag" | "take" | "out" | "done");
     (known && words.next().is_none()).then_some((pass, verb, irp))
 }
 
@@ -206,7 +211,11 @@ impl Queue {
         match words.as_slice() {
             ["insert", irp, file, place @ ("back" | "front")] => {
                 let (irp, file): (usize, usize) = (irp.parse().ok()?, file.parse().ok()?);
-                if *place == "back" { self.listed.push_back((irp, file)) } else { self.listed.push_front((irp, file)) }
+                if *place == "back" {
+                    self.listed.push_back((irp, file))
+                } else {
+                    self.listed.push_front((irp, file))
+                }
                 self.armed[irp] = true;
                 text.push_str("pending\n");
             }

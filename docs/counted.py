@@ -115,6 +115,7 @@ def checks(repository):
     yield from checks_of_figures(repository)
     yield from checks_of_schedules(repository)
     yield from checks_of_lines(repository)
+    yield from checks_of_budgets(repository)
 
 
 def checks_of_figures(repository):
@@ -148,6 +149,21 @@ def checks_of_lines(repository):
         said = int(found[1].replace(',', '')) if found else 0
         yield abs(said - count) * 20 <= count, name, line_of(text, found.start(1) if found else 0), \
             f'names another number of lines than the repository has: {count}'
+
+
+def checks_of_budgets(repository):
+    """No purpose has more lines than CONTRIBUTING allows it, and each crate has one purpose."""
+    name, text = 'CONTRIBUTING.md', repository.text('CONTRIBUTING.md')
+    rows = list(re.finditer(r'^\| [\w ]+ \| ([\w, ]*) ?\| ([\d,]+) \|$', text, re.M))
+    for row in rows:
+        crates = '|'.join(re.findall(r'\w+', row[1]))
+        count = repository.lines(rf'crates/({crates})/.*\.(rt|antt)' if crates else r'.*\.md')
+        yield count <= int(row[2].replace(',', '')), repository.path(name), line_of(text, row.start()), \
+            f'allows fewer lines than there are: {count}'
+    named = sorted(it for row in rows for it in re.findall(r'\w+', row[1]))
+    crates = sorted(re.findall(r'^(\w+)', repository.text('crates.txt'), re.M))
+    yield named == crates, repository.path(name), line_of(text, rows[0].start() if rows else 0), \
+        f"gives another purpose than one to {', '.join(sorted({*named} ^ {*crates})) or 'a crate'}"
 
 
 # ---- The orders of a few calls, in PROTOCOL's table ----

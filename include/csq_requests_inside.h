@@ -1,4 +1,5 @@
-/* csq_requests_inside.h: what csq_requests.h is made of, which alone includes it. None of it is for callers. */
+/* csq_requests_inside.h: what csq_requests.h is made of, which alone includes it. None of it is for
+ * callers. */
 #ifndef CSQ_REQUESTS_INSIDE_H
 #define CSQ_REQUESTS_INSIDE_H
 
@@ -28,14 +29,16 @@ struct csq_requests_file {
 /* A queue of requests. The pass is used under the mutex alone. */
 struct csq_requests {
     pthread_mutex_t mutex;
-    pthread_cond_t ended; /* signalled for drains when a request that they wait for ends or is put back */
+    pthread_cond_t ended; /* signalled for drains when a request that they wait for ends or is put
+                           * back */
     struct csq_queue queue;
     struct csq_pass pass;
     struct csq_size size;
     struct csq_requests_events events;
     struct csq_requests_slot *slots; /* by IRP */
     struct csq_requests_file *files; /* by file object, and last for all */
-    uint32_t *free_irps; /* a ring: the one that has been free longest is used next, so that all wear evenly */
+    uint32_t *free_irps; /* a ring: the one that has been free longest is used next, so that all
+                          * wear evenly */
     uint32_t free_first;
     uint32_t free_count;
     uint32_t spent; /* how many IRPs are past their last life */
@@ -43,7 +46,8 @@ struct csq_requests {
 };
 
 /* What is known of a file object, or of all for CSQ_ANY. */
-static inline struct csq_requests_file *csq_requests_file_of(struct csq_requests *requests, uint32_t file) {
+static inline struct csq_requests_file *csq_requests_file_of(struct csq_requests *requests,
+                                                             uint32_t file) {
     return &requests->files[file == CSQ_ANY ? requests->size.files : file];
 }
 
@@ -73,8 +77,8 @@ static inline struct timespec csq_requests_end_of(uint32_t milliseconds) {
 }
 
 /* Waits for a signal, at most until `end` unless there is no limit. 1 if the time is over. */
-static inline int csq_requests_wait(struct csq_requests *requests, pthread_cond_t *signal, uint32_t milliseconds,
-                                    const struct timespec *end) {
+static inline int csq_requests_wait(struct csq_requests *requests, pthread_cond_t *signal,
+                                    uint32_t milliseconds, const struct timespec *end) {
     if (milliseconds == CSQ_FOREVER) {
         pthread_cond_wait(signal, &requests->mutex);
         return 0;
@@ -84,7 +88,8 @@ static inline int csq_requests_wait(struct csq_requests *requests, pthread_cond_
 
 /* Wakes the drains, if one of them waits for this file object. */
 static inline void csq_requests_wake_drains(struct csq_requests *requests, uint32_t file) {
-    if (csq_requests_file_of(requests, file)->draining + csq_requests_file_of(requests, CSQ_ANY)->draining > 0) {
+    if (csq_requests_file_of(requests, file)->draining +
+            csq_requests_file_of(requests, CSQ_ANY)->draining > 0) {
         pthread_cond_broadcast(&requests->ended);
     }
 }
@@ -147,16 +152,17 @@ static inline void *csq_requests_end_cancelled(struct csq_requests *requests, st
     return value;
 }
 
-/* Lists a value under the IRP that has been free longest. The name is stored before the mutex is free, so that whoever
- * takes the request finds it, also in the value. */
-static inline uint32_t csq_requests_list(struct csq_requests *requests, void *value, uint32_t file, uint32_t front,
-                                         struct csq_irp *name) {
+/* Lists a value under the IRP that has been free longest. The name is stored before the mutex is
+ * free, so that the worker that takes the request finds it, also in the value. */
+static inline uint32_t csq_requests_list(struct csq_requests *requests, void *value, uint32_t file,
+                                         uint32_t front, struct csq_irp *name) {
     uint32_t irp, code;
     if (requests->closed) {
         return CSQ_CLOSED;
     }
     if (requests->free_count == 0) {
-        return requests->spent == requests->size.irps ? (uint32_t)CSQ_LIVES_SPENT : (uint32_t)CSQ_FULL;
+        return requests->spent == requests->size.irps ? (uint32_t)CSQ_LIVES_SPENT
+                                                      : (uint32_t)CSQ_FULL;
     }
     irp = *csq_requests_free_at(requests, 0);
     /* Never CSQ_CANCELLED: a cancel by the name of a free IRP is refused. */
@@ -174,7 +180,8 @@ static inline uint32_t csq_requests_list(struct csq_requests *requests, void *va
 }
 
 /* Drains with the mutex held. */
-static inline uint32_t csq_requests_drain_held(struct csq_requests *requests, uint32_t file, uint32_t milliseconds) {
+static inline uint32_t csq_requests_drain_held(struct csq_requests *requests, uint32_t file,
+                                               uint32_t milliseconds) {
     const struct timespec end = csq_requests_end_of(milliseconds);
     struct csq_irp name = { 0, 0 };
     int over = milliseconds == 0;
@@ -193,9 +200,12 @@ static inline uint32_t csq_requests_drain_held(struct csq_requests *requests, ui
     }
 }
 
-/* Frees what csq_requests_new has made so far: its file objects, and whether its mutex and its signal are there. */
-static inline void csq_requests_unmake(struct csq_requests *requests, uint32_t files, uint32_t whole) {
-    uint32_t code = requests->pass.at ? csq_give_back(&requests->queue, &requests->pass) : (uint32_t)CSQ_OK;
+/* Frees what csq_requests_new has made so far: its file objects, and whether its mutex and its
+ * signal are there. */
+static inline void csq_requests_unmake(struct csq_requests *requests, uint32_t files,
+                                       uint32_t whole) {
+    uint32_t code =
+        requests->pass.at ? csq_give_back(&requests->queue, &requests->pass) : (uint32_t)CSQ_OK;
     code |= csq_free(&requests->queue);
     (void)code;
     while (files > 0) {
@@ -212,9 +222,11 @@ static inline void csq_requests_unmake(struct csq_requests *requests, uint32_t f
 }
 
 /* Makes the queue and its pass, and the memory beside them. */
-static inline uint32_t csq_requests_make(struct csq_requests *requests, const uint32_t *file_limits) {
+static inline uint32_t csq_requests_make(struct csq_requests *requests,
+                                         const uint32_t *file_limits) {
     const struct csq_size *size = &requests->size;
-    uint32_t irp, code = file_limits ? csq_new_with_file_limits(&requests->queue, size, file_limits, size->files)
+    uint32_t irp, code = file_limits ? csq_new_with_file_limits(&requests->queue, size, file_limits,
+                                                                size->files)
                                      : csq_new(&requests->queue, size);
     if (code == CSQ_OK) {
         code = csq_take_pass(&requests->queue, &requests->pass);
@@ -223,7 +235,8 @@ static inline uint32_t csq_requests_make(struct csq_requests *requests, const ui
         return code;
     }
     requests->slots = (struct csq_requests_slot *)calloc(size->irps, sizeof *requests->slots);
-    requests->files = (struct csq_requests_file *)calloc((size_t)size->files + 1, sizeof *requests->files);
+    requests->files =
+        (struct csq_requests_file *)calloc((size_t)size->files + 1, sizeof *requests->files);
     requests->free_irps = (uint32_t *)calloc(size->irps, sizeof *requests->free_irps);
     if (!requests->slots || !requests->files || !requests->free_irps) {
         return CSQ_NO_MEMORY;
@@ -234,9 +247,10 @@ static inline uint32_t csq_requests_make(struct csq_requests *requests, const ui
     return CSQ_OK;
 }
 
-/* Makes the mutex and the signals, which tell the time by a clock that nobody sets. Stores how many of the file objects'
- * there are, and in *whole whether the mutex and the drains' signal are. */
-static inline uint32_t csq_requests_make_signals(struct csq_requests *requests, uint32_t *files, uint32_t *whole) {
+/* Makes the mutex and the signals, which tell the time by a clock that nobody sets. Stores how many
+ * of the file objects' there are, and in *whole whether the mutex and the drains' signal are. */
+static inline uint32_t csq_requests_make_signals(struct csq_requests *requests, uint32_t *files,
+                                                 uint32_t *whole) {
     pthread_condattr_t monotonic;
     if (pthread_condattr_init(&monotonic) != 0) {
         return CSQ_NO_MEMORY;

@@ -1,6 +1,6 @@
 /*
- * iocsq.h: enough of the WDK's names for the queue code of a driver to be compiled unchanged, in user mode, over the
- * cancel-safe queue of csq.h, and to be checked while it runs.
+ * iocsq.h: enough of the WDK's names for the queue code of a driver to be compiled unchanged, in
+ * user mode, over the cancel-safe queue of csq.h, and to be checked while it runs.
  *
  *     iocsq/words.h     words that say nothing here, as those of sal.h
  *     iocsq/numbers.h   statuses, codes and flags
@@ -9,11 +9,13 @@
  *     iocsq/io.h        drivers, devices, IRPs and their cancellation, remove locks, work items
  *     iocsq/queue.h     IO_CSQ and IoCsqXxx, with the driver's own callbacks
  *
- * The driver's callbacks keep the driver's list, as in the kernel. Beside it runs a queue of csq.h, which decides who
- * gets which IRP. The first disagreement of the two is reported, with the calls before it (iocsq_test.h).
+ * The driver's callbacks keep the driver's list, as in the kernel. Beside it runs a queue of csq.h,
+ * which decides who gets which IRP. The first disagreement of the two is reported, with the calls
+ * before it (iocsq_test.h).
  *
- * A driver includes <wdm.h>, <ntddk.h> or <csq.h> as ever, with include/wdk in front of the compiler's folders. Names,
- * types and numbers are those of the WDK. A driver may not rely on sizes and offsets of the structs here.
+ * A driver includes <wdm.h>, <ntddk.h> or <csq.h> as ever, with include/wdk in front of the
+ * compiler's folders. Names, types and numbers are those of the WDK. A driver may not rely on sizes
+ * and offsets of the structs here.
  */
 #ifndef IOCSQ_H
 #define IOCSQ_H

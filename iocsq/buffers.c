@@ -1,17 +1,18 @@
-/* A request's buffers, as the I/O manager has them: filled from the sender's, and copied back at its completion. Each is
- * a copy, so that what the driver writes too late is seen. */
+/* A request's buffers, as the I/O manager has them: filled from the sender's, and copied back at
+ * its completion. Each is a copy, so that what the driver writes too late is seen. */
 #include "internal.h"
 #include "poison.h"
 
 #include <stdlib.h>
 
-/* What the pool has at this place of a buffer. Each is another byte than the ones beside it, so that a driver that fills
- * in one and the same doesn't write what was there. */
+/* What the pool has at this place of a buffer. Each is another byte than the ones beside it, so
+ * that a driver that fills in one and the same doesn't write what was there. */
 static UCHAR of_pool(size_t at) {
     return (UCHAR)(IOCSQ_GONE + 59 * at);
 }
 
-static void allocate(struct iocsq_buffer *made, uint32_t size, const void *of_sender, uint32_t filled) {
+static void allocate(struct iocsq_buffer *made, uint32_t size, const void *of_sender,
+                     uint32_t filled) {
     made->size = size;
     made->at = size ? malloc(size) : NULL;
     if (size && !made->at) {
@@ -43,7 +44,9 @@ void iocsq_give_buffers(struct iocsq_irp *i, struct iocsq_sent sent) {
     i->irp.UserBuffer = i->sender_buffer = sent.buffer;
     i->output = sent.buffer ? sent.output : 0;
     switch (sent.method) {
-    case METHOD_BUFFERED: give_system(i, sent.input > sent.output ? sent.input : sent.output, sent.input); break;
+    case METHOD_BUFFERED:
+        give_system(i, sent.input > sent.output ? sent.input : sent.output, sent.input);
+        break;
     case METHOD_NEITHER: i->output = 0; break;
     default:
         if (is_control) {
@@ -62,22 +65,26 @@ static void take(struct iocsq_buffer *of) {
 
 enum { UNFILLED = 3 }; /* of fewer bytes it may be chance that they are as they were */
 
-/* What a driver says it filled in of its system buffer and didn't, the sender gets as it was in the pool. */
+/* What a driver says it filled in of its system buffer and didn't, the sender gets as it was in the
+ * pool. */
 static void expect_filled(const struct iocsq_irp *i, size_t count) {
     size_t at = count;
     while (at > i->buffer.filled && i->buffer.at[at - 1] == of_pool(at - 1)) {
         at--;
     }
     if (count - at >= UNFILLED) {
-        iocsq_disagree(i, "irp %u is completed with %zu bytes, and the last %zu of them were never filled in: the sender gets "
-                          "what was in the pool", i->index, count, count - at);
+        iocsq_disagree(i,
+                       "irp %u is completed with %zu bytes, and the last %zu of them were never "
+                       "filled in: the sender gets what was in the pool",
+                       i->index, count, count - at);
     }
 }
 
 void iocsq_take_buffers(struct iocsq_irp *i) {
     size_t count = i->information < i->output ? i->information : i->output;
     if (i->direct.at) {
-        memcpy(i->sender_buffer, i->direct.at, i->output); /* the sender's own pages: whatever the status is */
+        memcpy(i->sender_buffer, i->direct.at, i->output); /* the sender's own pages: whatever the
+                                                            * status is */
     } else if (i->buffer.at && !NT_ERROR(i->status) && count > 0) {
         expect_filled(i, count);
         memcpy(i->sender_buffer, i->buffer.at, count);
@@ -106,7 +113,8 @@ static void check_one(const struct iocsq_irp *i, const struct iocsq_buffer *of) 
     UNPOISON(of->at, of->size);
     for (uint32_t at = 0; at < of->size; at++) {
         if (of->at[at] != IOCSQ_GONE) {
-            iocsq_disagree(i, "the buffer of irp %u was written to after it was completed", i->index);
+            iocsq_disagree(i, "the buffer of irp %u was written to after it was completed",
+                           i->index);
         }
     }
     POISON(of->at, of->size);

@@ -18,7 +18,8 @@ enum { STACK = 512 * 1024 };
 #include <sanitizer/common_interface_defs.h>
 #define START_SWITCH(kept, stack, size) __sanitizer_start_switch_fiber(kept, stack, size)
 #define FINISH_SWITCH(kept, stack, size) __sanitizer_finish_switch_fiber(kept, stack, size)
-/* The sanitizer warns of swapcontext once in a process: now, and not in each that comes from this one. */
+/* The sanitizer warns of swapcontext once in a process: now, and not in each that comes from this
+ * one. */
 static void hear_warning(void) {
     static ucontext_t here, there;
     volatile bool heard = false;
@@ -38,7 +39,8 @@ static struct iocsq_context *left; /* which was switched from last */
 static char *stacks;
 
 void iocsq_begin_contexts(size_t count) {
-    stacks = mmap(NULL, count * STACK, PROT_READ | PROT_WRITE, MAP_PRIVATE | MAP_ANONYMOUS | MAP_NORESERVE, -1, 0);
+    stacks = mmap(NULL, count * STACK, PROT_READ | PROT_WRITE,
+                  MAP_PRIVATE | MAP_ANONYMOUS | MAP_NORESERVE, -1, 0);
     if (stacks == MAP_FAILED) {
         iocsq_fail("no memory for the stacks of threads");
     }

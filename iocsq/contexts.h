@@ -13,8 +13,8 @@ struct iocsq_context {
 
 /* Room for the stacks of so many. */
 void iocsq_begin_contexts(size_t count);
-/* One that begins with this function, as it is first switched to; the function never returns. It has the stack
- * of this number, which no other has at the time. */
+/* One that begins with this function, as it is first switched to; the function never returns. It
+ * has the stack of this number, which no other has at the time. */
 void iocsq_make_context(struct iocsq_context *made, size_t stack, void (*begin)(void));
 /* The first that such a function does. */
 void iocsq_enter_context(void);

@@ -1,5 +1,6 @@
-/* What a run covered: which callbacks ran, what cancels and cleanups met, how requests ended. A run in which nothing was
- * inserted, removed or cancelled says nothing of a driver's queue, so what never happened is named. */
+/* What a run covered: which callbacks ran, what cancels and cleanups met, how requests ended. A run
+ * in which nothing was inserted, removed or cancelled says nothing of a driver's queue, so what
+ * never happened is named. */
 #include "queues.h"
 
 enum { KINDS = 32 };
@@ -52,9 +53,10 @@ void iocsq_cover_end(UCHAR major, NTSTATUS status) {
 /* ---- Kinds ---- */
 static bool is_of_kind(const struct iocsq_kind *k, const IO_CSQ *csq) {
     const IO_CSQ *c = &k->callbacks;
-    return c->Type == csq->Type && c->CsqInsertIrp == csq->CsqInsertIrp && c->CsqRemoveIrp == csq->CsqRemoveIrp &&
-           c->CsqPeekNextIrp == csq->CsqPeekNextIrp && c->CsqAcquireLock == csq->CsqAcquireLock &&
-           c->CsqReleaseLock == csq->CsqReleaseLock && c->CsqCompleteCanceledIrp == csq->CsqCompleteCanceledIrp;
+    return c->Type == csq->Type && c->CsqInsertIrp == csq->CsqInsertIrp &&
+           c->CsqRemoveIrp == csq->CsqRemoveIrp && c->CsqPeekNextIrp == csq->CsqPeekNextIrp &&
+           c->CsqAcquireLock == csq->CsqAcquireLock && c->CsqReleaseLock == csq->CsqReleaseLock &&
+           c->CsqCompleteCanceledIrp == csq->CsqCompleteCanceledIrp;
 }
 
 struct iocsq_kind *iocsq_kind_of(const IO_CSQ *csq) {
@@ -114,9 +116,12 @@ void iocsq_cover_cancelled(struct iocsq_queue *q) {
 
 /* ---- The table ---- */
 static const char *callback_name(const struct iocsq_kind *k, uint32_t which) {
-    static const char *const names[IOCSQ_CALLBACKS] = { "CsqInsertIrp",   "CsqRemoveIrp",   "CsqPeekNextIrp",
-                                                        "CsqAcquireLock", "CsqReleaseLock", "CsqCompleteCanceledIrp" };
-    return which == IOCSQ_INSERT && k->callbacks.Type == IO_TYPE_CSQ_EX ? "CsqInsertIrpEx" : names[which];
+    static const char *const names[IOCSQ_CALLBACKS] = {
+        "CsqInsertIrp",   "CsqRemoveIrp",   "CsqPeekNextIrp",
+        "CsqAcquireLock", "CsqReleaseLock", "CsqCompleteCanceledIrp"
+    };
+    return which == IOCSQ_INSERT && k->callbacks.Type == IO_TYPE_CSQ_EX ? "CsqInsertIrpEx"
+                                                                        : names[which];
 }
 
 /* Behind the name of what is of one kind, where there are more. */
@@ -180,14 +185,17 @@ static bool kind_was_tested(const struct iocsq_kind *k) {
     }
     if (k->inserted == 0) {
         return complain(k, "nothing was inserted",
-                        "no request reached the queue (do the driver's control codes stand in DriverControls?)");
+                        "no request reached the queue (do the driver's control codes stand in "
+                        "DriverControls?)");
     }
     if (k->removed == 0 && !policy->NeverRemoves) {
-        all = complain(k, "nothing was removed", "if the driver never removes an IRP, its policy says NeverRemoves");
+        all = complain(k, "nothing was removed",
+                       "if the driver never removes an IRP, its policy says NeverRemoves");
     }
     if (k->cancelled == 0 && !policy->NeverCancelled) {
-        all = complain(k, "nothing was cancelled", "if no IRP stays in the queue for long enough, its policy says "
-                                                   "NeverCancelled");
+        all = complain(
+            k, "nothing was cancelled",
+            "if no IRP stays in the queue for long enough, its policy says NeverCancelled");
     }
     return all_ran(k) && all;
 }
@@ -197,8 +205,8 @@ BOOLEAN IocsqCoverage(VOID) {
     print_table();
     fflush(stdout);
     if (kind_count == 0) {
-        return complain(NULL, "no queue was initialized", "the driver called neither IoCsqInitialize nor "
-                                                          "IoCsqInitializeEx");
+        return complain(NULL, "no queue was initialized",
+                        "the driver called neither IoCsqInitialize nor IoCsqInitializeEx");
     }
     for (uint32_t at = 0; at < kind_count; at++) {
         all = kind_was_tested(&kinds[at]) && all;

@@ -1,5 +1,6 @@
-/* What runs later: timers and DPCs, on a thread that stands for the processor; work items, on threads of the system.
- * The state's lock is held for all of it, but not while a routine of the driver runs. */
+/* What runs later: timers and DPCs, on a thread that stands for the processor; work items, on
+ * threads of the system. The state's lock is held for all of it, but not while a routine of the
+ * driver runs. */
 #include "internal.h"
 
 #include <stdlib.h>
@@ -114,7 +115,9 @@ static void *run_processor(void *of) {
     iocsq_lock_state();
     while (!ending) {
         KTIMER *next = next_timer();
-        uint64_t now = iocsq_now(), wait = !next ? IOCSQ_FOR_EVER : next->DueTime > now ? next->DueTime - now : 0;
+        uint64_t now = iocsq_now(), wait = !next                 ? IOCSQ_FOR_EVER
+                                           : next->DueTime > now ? next->DueTime - now
+                                                                 : 0;
         iocsq_await_time(has_processor_work, NULL, wait, "a timer or a DPC");
         expire_timers();
         if (first_dpc) {
@@ -221,10 +224,12 @@ BOOLEAN NTAPI KeSetTimer(PKTIMER Timer, LARGE_INTEGER DueTime, PKDPC Dpc) {
     return KeSetTimerEx(Timer, DueTime, 0, Dpc);
 }
 
-/* In turns it is drawn whether the clock came just before: what a driver has to reckon with as it cancels a timer. */
+/* In turns it is drawn whether the clock came just before: what a driver has to reckon with as it
+ * cancels a timer. */
 static void draw_expiry(const KTIMER *timer) {
     uint64_t now = iocsq_now();
-    if (iocsq_in_turns() && timer->Set && timer->DueTime > now && timer->DueTime - now < SOON && iocsq_rarely(2)) {
+    if (iocsq_in_turns() && timer->Set && timer->DueTime > now && timer->DueTime - now < SOON &&
+        iocsq_rarely(2)) {
         iocsq_pass_time_in_turns(timer->DueTime - now);
     }
     expire_timers();
@@ -263,7 +268,8 @@ static bool has_work(void *of) {
 }
 
 static void run_first_work(void) {
-    struct _IO_WORKITEM *item = first_work, call = *item; /* its routine may free it, or queue it again */
+    struct _IO_WORKITEM *item = first_work, call = *item; /* its routine may free it, or queue it
+                                                           * again */
     first_work = item->next;
     item->queued = false;
     iocsq_unlock_state();
@@ -307,8 +313,8 @@ VOID NTAPI IoInitializeWorkItem(PVOID IoObject, PIO_WORKITEM IoWorkItem) {
     begin_item(IoWorkItem, IoObject, true);
 }
 
-VOID NTAPI IoQueueWorkItem(PIO_WORKITEM IoWorkItem, PIO_WORKITEM_ROUTINE WorkerRoutine, WORK_QUEUE_TYPE QueueType,
-                           PVOID Context) {
+VOID NTAPI IoQueueWorkItem(PIO_WORKITEM IoWorkItem, PIO_WORKITEM_ROUTINE WorkerRoutine,
+                           WORK_QUEUE_TYPE QueueType, PVOID Context) {
     (void)QueueType;
     iocsq_lock_state();
     if (IoWorkItem->queued) {

@@ -1,4 +1,5 @@
-/* Devices, what they are attached to, and symbolic links to them: each is checked for uses other than it was made for. */
+/* Devices, what they are attached to, and symbolic links to them: each is checked for uses other
+ * than it was made for. */
 #include "internal.h"
 
 #include <stdlib.h>
@@ -15,8 +16,9 @@ struct device {
 };
 static struct device *devices; /* with the references, under the state's lock */
 
-NTSTATUS NTAPI IoCreateDevice(PDRIVER_OBJECT DriverObject, ULONG DeviceExtensionSize, PUNICODE_STRING DeviceName,
-                              DEVICE_TYPE DeviceType, ULONG DeviceCharacteristics, BOOLEAN Exclusive,
+NTSTATUS NTAPI IoCreateDevice(PDRIVER_OBJECT DriverObject, ULONG DeviceExtensionSize,
+                              PUNICODE_STRING DeviceName, DEVICE_TYPE DeviceType,
+                              ULONG DeviceCharacteristics, BOOLEAN Exclusive,
                               PDEVICE_OBJECT *DeviceObject) {
     struct device *made = calloc(1, sizeof *made);
     PVOID extension = calloc(1, DeviceExtensionSize + (size_t)1);
@@ -58,14 +60,16 @@ bool iocsq_reference_device(PVOID object, int change) {
     if (device) {
         device->references += change;
         if (device->references < 0) {
-            iocsq_disagree(NULL, "ObDereferenceObject of a device, more often than it was referenced");
+            iocsq_disagree(NULL,
+                           "ObDereferenceObject of a device, more often than it was referenced");
         }
     }
     return device != NULL;
 }
 
 static void free_device(struct device *device) {
-    iocsq_end_queues_in(device->object.DeviceExtension, device->extension_size, "IoDeleteDevice of a device");
+    iocsq_end_queues_in(device->object.DeviceExtension, device->extension_size,
+                        "IoDeleteDevice of a device");
     iocsq_lock_state();
     *link_of(device) = device->next;
     iocsq_unlock_state();
@@ -110,8 +114,10 @@ VOID NTAPI IoDeleteDevice(PDEVICE_OBJECT DeviceObject) {
     if (device->references > 0) {
         iocsq_disagree(NULL, "IoDeleteDevice of a device, and a reference to it was not dropped");
     }
-    iocsq_check_no_deferred(&DeviceObject->Dpc, sizeof DeviceObject->Dpc, "IoDeleteDevice of a device");
-    iocsq_check_no_deferred(DeviceObject->DeviceExtension, device->extension_size, "IoDeleteDevice of a device");
+    iocsq_check_no_deferred(&DeviceObject->Dpc, sizeof DeviceObject->Dpc,
+                            "IoDeleteDevice of a device");
+    iocsq_check_no_deferred(DeviceObject->DeviceExtension, device->extension_size,
+                            "IoDeleteDevice of a device");
     iocsq_check_no_lookaside(DeviceObject->DeviceExtension, device->extension_size);
     while (*at != DeviceObject) {
         at = &(*at)->NextDevice;
@@ -126,7 +132,8 @@ VOID NTAPI IoDeleteDevice(PDEVICE_OBJECT DeviceObject) {
     }
 }
 
-PDEVICE_OBJECT NTAPI IoAttachDeviceToDeviceStack(PDEVICE_OBJECT SourceDevice, PDEVICE_OBJECT TargetDevice) {
+PDEVICE_OBJECT NTAPI IoAttachDeviceToDeviceStack(PDEVICE_OBJECT SourceDevice,
+                                                 PDEVICE_OBJECT TargetDevice) {
     PDEVICE_OBJECT top = TargetDevice;
     while (top->AttachedDevice) {
         top = top->AttachedDevice;
@@ -203,7 +210,8 @@ NTSTATUS NTAPI IoDeleteSymbolicLink(PUNICODE_STRING SymbolicLinkName) {
 void iocsq_check_links_deleted(void) {
     for (uint32_t at = 0; at < LINKS; at++) {
         if (links[at].length > 0) {
-            iocsq_disagree(NULL, "the driver was unloaded, and a symbolic link of it was not deleted");
+            iocsq_disagree(NULL,
+                           "the driver was unloaded, and a symbolic link of it was not deleted");
         }
     }
 }

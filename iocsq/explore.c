@@ -1,10 +1,10 @@
-/* The bounded mode: every schedule of a test with at most so many preemptions. A run is a sequence of choices, and is
- * made anew from a plan: the choices that aren't option 0, each with its place in that sequence. It writes down which
- * choices it had, and their other options are the plans of other runs. So no schedule is run twice, and none is left
- * out.
+/* The bounded mode: every schedule of a test with at most a given number of preemptions. A run is a
+ * sequence of choices, and is made anew from a plan: the choices that aren't option 0, each with
+ * its place in that sequence. It writes down which choices it had, and their other options are the
+ * plans of other runs. So no schedule is run twice, and none is left out.
  *
- * A process explores: it gives the program's variables back their values before each run (variables.c). A report ends it,
- * and what it wrote down is left to the process that began it. */
+ * A process explores: it gives the program's variables back their values before each run
+ * (variables.c). A report ends it, and what it wrote down is left to the process that began it. */
 #define _GNU_SOURCE
 #include "internal.h"
 
@@ -79,7 +79,8 @@ uint32_t iocsq_choose(uint32_t options, uint32_t free) {
     }
     uint32_t at = shared->run.count++, option = 0;
     if (at == CHOICES) {
-        iocsq_disagree(NULL, "the run has more than %u choices: a thread goes round without end", (unsigned)CHOICES);
+        iocsq_disagree(NULL, "the run has more than %u choices: a thread goes round without end",
+                       (unsigned)CHOICES);
     }
     shared->run.choices[at].options = (uint16_t)options;
     shared->run.choices[at].free = (uint16_t)free;
@@ -87,8 +88,9 @@ uint32_t iocsq_choose(uint32_t options, uint32_t free) {
         option = plan.choices[next_planned++].option;
     }
     if (option >= options) {
-        iocsq_fail("choice %u has %u options, and the schedule wants option %u: it is another test's, or the driver does "
-                   "not do the same each time", at, options, option);
+        iocsq_fail("choice %u has %u options, and the schedule wants option %u: it is another "
+                   "test's, or the driver does not do the same each time",
+                   at, options, option);
     }
     return option;
 }
@@ -105,8 +107,9 @@ static void run_plan(void (*call)(PVOID context), PVOID context, const struct pl
     shared->run.steps = iocsq_steps();
     shared->run.threads = iocsq_task_count();
     if (next_planned < plan.count) {
-        iocsq_fail("the run ends before choice %u, which the schedule names: it is another test's, or the driver does "
-                   "not do the same each time", plan.choices[next_planned].at);
+        iocsq_fail("the run ends before choice %u, which the schedule names: it is another test's, "
+                   "or the driver does not do the same each time",
+                   plan.choices[next_planned].at);
     }
     shared->explored.Inserted += iocsq_counts.Inserted;
 }
@@ -122,9 +125,10 @@ static int status_of(pid_t child) {
     return WIFEXITED(status) ? WEXITSTATUS(status) : 128 + WTERMSIG(status); /* as a shell has it */
 }
 
-/* Runs a plan as if it were the first: a sanitizer has variables of its own, so with one each run is a process. */
-static void run_afresh(const struct iocsq_variables *variables, void (*call)(PVOID context), PVOID context,
-                       const struct plan *made) {
+/* Runs a plan as if it were the first: a sanitizer has variables of its own, so with one each run
+ * is a process. */
+static void run_afresh(const struct iocsq_variables *variables, void (*call)(PVOID context),
+                       PVOID context, const struct plan *made) {
     pid_t child = variables ? 0 : fork();
     if (child == 0) {
         run_plan(call, context, made);
@@ -173,7 +177,8 @@ static void push_options(struct pile *pile, struct plan made, uint32_t at, bool 
 static void push_others(struct pile *pile, const struct plan *made, bool preemptions) {
     uint32_t from = made->count ? made->choices[made->count - 1].at + 1 : 0;
     if (made->count == PLANNED) {
-        iocsq_fail("a schedule has more than %u choices that aren't the first option", (unsigned)PLANNED);
+        iocsq_fail("a schedule has more than %u choices that aren't the first option",
+                   (unsigned)PLANNED);
     }
     for (uint32_t at = shared->run.count; at > from; at--) { /* the last one pushed is run first */
         push_options(pile, *made, at - 1, preemptions);
@@ -183,11 +188,12 @@ static void push_others(struct pile *pile, const struct plan *made, bool preempt
 static void name_schedule(char *name, size_t size, const struct plan *made) {
     size_t used = 0;
     if (made->priorities.depth > 0) {
-        snprintf(name, size, "pct:%u:%u:%u", made->priorities.depth, made->priorities.steps, made->priorities.seed);
+        snprintf(name, size, "pct:%u:%u:%u", made->priorities.depth, made->priorities.steps,
+                 made->priorities.seed);
     }
     for (uint32_t at = 0; at < made->count && used < size; at++) {
-        used += (size_t)snprintf(name + used, size - used, "%s%u:%u", at ? "," : "", made->choices[at].at,
-                                 made->choices[at].option);
+        used += (size_t)snprintf(name + used, size - used, "%s%u:%u", at ? "," : "",
+                                 made->choices[at].at, made->choices[at].option);
     }
 }
 
@@ -195,7 +201,8 @@ static void begin_exploration(void) {
     if (!bounded) {
         iocsq_fail("IocsqBounded was not called first");
     }
-    shared = mmap(NULL, sizeof *shared, PROT_READ | PROT_WRITE, MAP_SHARED | MAP_ANONYMOUS | MAP_NORESERVE, -1, 0);
+    shared = mmap(NULL, sizeof *shared, PROT_READ | PROT_WRITE,
+                  MAP_SHARED | MAP_ANONYMOUS | MAP_NORESERVE, -1, 0);
     if (shared == MAP_FAILED) {
         iocsq_fail("no memory for the choices of a run");
     }
@@ -208,7 +215,8 @@ struct exploration {
     PVOID context;
     const struct iocsq_variables *variables;
     struct pile ready;       /* plans that have yet to be run */
-    struct pile parents;     /* those with one preemption fewer: what they lead to has yet to be found */
+    struct pile parents;     /* those with one preemption fewer: what they lead to has yet to be
+                              * found */
     struct pile new_parents; /* those that were run, of the present preemptions */
 };
 
@@ -308,8 +316,9 @@ static void draw_runs(struct exploration *e, ULONG depth, ULONG runs) {
         bool longer = shared->run.steps > drawn.steps;
         shared->explored.Schedules += !longer;
         shared->explored.Longer += longer;
-        shared->explored.Threads = shared->run.threads > shared->explored.Threads ? shared->run.threads
-                                                                                   : shared->explored.Threads;
+        shared->explored.Threads = shared->run.threads > shared->explored.Threads
+                                       ? shared->run.threads
+                                       : shared->explored.Threads;
     }
 }
 
@@ -332,18 +341,20 @@ static void read_schedule(const char *name, struct plan *made) {
     int used = 0;
     const char *at = name;
     struct iocsq_priorities *p = &made->priorities;
-    if (sscanf(at, "pct:%u:%u:%u%n", &p->depth, &p->steps, &p->seed, &used) == 3 && p->depth <= IOCSQ_DEPTH &&
-        p->steps > 0) {
+    if (sscanf(at, "pct:%u:%u:%u%n", &p->depth, &p->steps, &p->seed, &used) == 3 &&
+        p->depth <= IOCSQ_DEPTH && p->steps > 0) {
         at += used;
     }
     while (*at && made->count < PLANNED &&
-           sscanf(at, "%u:%u%n", &made->choices[made->count].at, &made->choices[made->count].option, &used) == 2) {
+           sscanf(at, "%u:%u%n", &made->choices[made->count].at, &made->choices[made->count].option,
+                  &used) == 2) {
         made->count++;
         at += used;
         at += *at == ',';
     }
     if (*at) {
-        iocsq_fail("no schedule: %s (one is CHOICE:OPTION,CHOICE:OPTION.., as a report names it)", name);
+        iocsq_fail("no schedule: %s (one is CHOICE:OPTION,CHOICE:OPTION.., as a report names it)",
+                   name);
     }
 }
 

@@ -5,7 +5,8 @@ enum { MILLISECOND = 1000000 };
 
 static FILE_OBJECT files[IOCSQ_FILES]; /* with the next four, under the state's lock */
 static bool is_open[IOCSQ_FILES];
-static bool is_closing[IOCSQ_FILES]; /* its IRP_MJ_CLEANUP was sent, or its IRP_MJ_CREATE has yet to be completed */
+static bool is_closing[IOCSQ_FILES]; /* its IRP_MJ_CLEANUP was sent, or its IRP_MJ_CREATE has yet to
+                                      * be completed */
 static bool is_cleaned[IOCSQ_FILES]; /* its IRP_MJ_CLEANUP was completed */
 static uint32_t references[IOCSQ_FILES]; /* of IocsqReferenceAny */
 static LONG of_driver[IOCSQ_FILES];      /* references of the driver */
@@ -62,7 +63,8 @@ bool iocsq_reference_file(PVOID object, int change) {
     }
     of_driver[number] += change;
     if (of_driver[number] < 0) {
-        iocsq_disagree(NULL, "ObDereferenceObject of file %u, more often than it was referenced", number);
+        iocsq_disagree(NULL, "ObDereferenceObject of file %u, more often than it was referenced",
+                       number);
     }
     iocsq_state_changed();
     return true;
@@ -178,7 +180,8 @@ static void check_cleaned(PFILE_OBJECT file) {
     iocsq_unlock_state();
     const struct iocsq_irp *left = iocsq_left_in_queues(number);
     if (left) {
-        iocsq_disagree(left, "IRP_MJ_CLEANUP of file %u left irp %u in the queue", number, left->index);
+        iocsq_disagree(left, "IRP_MJ_CLEANUP of file %u left irp %u in the queue", number,
+                       left->index);
     }
 }
 
@@ -199,26 +202,32 @@ static void wait_for_close(PFILE_OBJECT file) {
     for (uint32_t at = 0; at < iocsq_irp_count(); at++) {
         struct irp_of_file of = { iocsq_irp_number(at), file };
         iocsq_lock_state();
-        bool completed = iocsq_await(is_completed, &of, iocsq_patience() * (uint64_t)MILLISECOND, "a request");
+        bool completed =
+            iocsq_await(is_completed, &of, iocsq_patience() * (uint64_t)MILLISECOND, "a request");
         iocsq_unlock_state();
         if (!completed && of.irp->late) {
-            iocsq_disagree(of.irp, "irp %u went into the queue after IRP_MJ_CLEANUP of its file %u began, and was "
-                                   "never completed", at, iocsq_file_number(file));
+            iocsq_disagree(of.irp,
+                           "irp %u went into the queue after IRP_MJ_CLEANUP of its file %u began, "
+                           "and was never completed",
+                           at, iocsq_file_number(file));
         }
         if (!completed) {
-            iocsq_disagree(of.irp, "irp %u of file %u %s, and was never completed", at, iocsq_file_number(file),
-                           iocsq_place_name(of.irp));
+            iocsq_disagree(of.irp, "irp %u of file %u %s, and was never completed", at,
+                           iocsq_file_number(file), iocsq_place_name(of.irp));
         }
     }
 }
 
 static void wait_for_dereference(PFILE_OBJECT file) {
     iocsq_lock_state();
-    bool dropped = iocsq_await(is_dereferenced, file, iocsq_patience() * (uint64_t)MILLISECOND, "a file object's references");
+    bool dropped = iocsq_await(is_dereferenced, file, iocsq_patience() * (uint64_t)MILLISECOND,
+                               "a file object's references");
     iocsq_unlock_state();
     if (!dropped) {
-        iocsq_disagree(NULL, "IRP_MJ_CLOSE of file %u never comes, since the driver doesn't drop a reference to it",
-                       iocsq_file_number(file));
+        iocsq_disagree(
+            NULL,
+            "IRP_MJ_CLOSE of file %u never comes, since the driver doesn't drop a reference to it",
+            iocsq_file_number(file));
     }
 }
 

@@ -1,5 +1,5 @@
-/* What the files of iocsq share. All names for others begin with iocsq_, since they stand in one program with a
- * driver. */
+/* What the files of iocsq share. All names for others begin with iocsq_, since they stand in one
+ * program with a driver. */
 #ifndef IOCSQ_INTERNAL_H
 #define IOCSQ_INTERNAL_H
 #include "iocsq_test.h"
@@ -7,15 +7,16 @@
 #include <stdatomic.h>
 #include <stdbool.h>
 
-/* IRPs under way, file objects that are open (one number of csq.h's is for no file object), an IRP's stack locations,
- * and the steps kept of an IRP's stay. */
+/* IRPs under way, file objects that are open (one number of csq.h's is for no file object), an
+ * IRP's stack locations, and the steps kept of an IRP's stay. */
 enum { IOCSQ_IRPS = 4096, IOCSQ_FILES = 255, IOCSQ_STACK = 4, IOCSQ_STEPS = 16 };
 /* In the place of a time in nanoseconds: without a limit. */
 #define IOCSQ_FOR_EVER UINT64_MAX
 
 /* ---- irps.c ---- */
 
-/* Where an IRP is: in no queue; in a queue's list; removed from it; taken out of it as cancelled; completed. */
+/* Where an IRP is: in no queue; in a queue's list; removed from it; taken out of it as cancelled;
+ * completed. */
 enum iocsq_place { IOCSQ_HOME, IOCSQ_LISTED, IOCSQ_REMOVED, IOCSQ_CANCELLED, IOCSQ_DONE };
 
 /* An atomic step on an IRP, with the pass that made it. */
@@ -42,7 +43,8 @@ struct iocsq_tail {
 
 struct iocsq_queue;
 
-/* An IRP, with what the checker knows of it: in memory of its own, so that an IRP that was completed isn't read. */
+/* An IRP, with what the checker knows of it: in memory of its own, so that an IRP that was
+ * completed isn't read. */
 struct iocsq_irp {
     IRP irp; /* first: iocsq_irp_at relies on it */
     IO_STACK_LOCATION stack[IOCSQ_STACK]; /* location k is stack[k - 1] */
@@ -55,18 +57,22 @@ struct iocsq_irp {
     PFILE_OBJECT file;
     uint64_t sent; /* when, in nanoseconds */
     uint32_t most; /* bytes that its completion may name: those of its buffer */
-    struct iocsq_buffer buffer, direct; /* AssociatedIrp.SystemBuffer, and what MdlAddress describes */
+    struct iocsq_buffer buffer, direct; /* AssociatedIrp.SystemBuffer, and what MdlAddress
+                                         * describes */
     MDL mdl;
     uint32_t output; /* bytes of the sender's buffer that are filled in at its completion */
     PVOID sender_buffer;
     _Atomic int place;
-    _Atomic uint64_t stay; /* the queue, slot and life that it has in a reference queue; 0: none. A put-back keeps it */
+    _Atomic uint64_t stay; /* the queue, slot and life that it has in a reference queue; 0: none. A
+                            * put-back keeps it */
     uint32_t pass;         /* which holds it there */
     PIO_CSQ_IRP_CONTEXT context;
     struct iocsq_tail tail; /* as it went into the queue */
     _Atomic bool late; /* it went into the queue once its file object's IRP_MJ_CLEANUP was sent */
-    struct iocsq_queue *call_of; /* the queue whose call is to end with the IRP's completion, or null */
-    _Atomic uint64_t pending; /* `use` in the upper half, and a bit for each location that was marked pending */
+    struct iocsq_queue *call_of; /* the queue whose call is to end with the IRP's completion, or
+                                  * null */
+    _Atomic uint64_t pending; /* `use` in the upper half, and a bit for each location that was
+                               * marked pending */
     _Atomic bool passed_on;   /* to a lower driver */
     _Atomic uint32_t completions; /* calls of IoCompleteRequest */
     bool answered; /* by its dispatch routine; with the next four the state's lock is held for it */
@@ -84,11 +90,13 @@ struct iocsq_irp *iocsq_irp_of_entry(const LIST_ENTRY *entry);      /* null: no 
 struct iocsq_irp *iocsq_irp_number(uint32_t index);
 uint32_t iocsq_irp_count(void);                                     /* none above was ever used */
 struct iocsq_irp *iocsq_new_irp(int locations, bool own);           /* null: all are under way */
-void iocsq_forget_irps(void);                                       /* all that were used: none was ever */
+void iocsq_forget_irps(void); /* all that were used: none was ever */
 const char *iocsq_place_name(const struct iocsq_irp *i);
-NTSTATUS iocsq_dispatch(PDEVICE_OBJECT device, struct iocsq_irp *i); /* calls the driver at the IRP's next location */
+/* Calls the driver at the IRP's next location. */
+NTSTATUS iocsq_dispatch(PDEVICE_OBJECT device, struct iocsq_irp *i);
 /* The two hold the state's lock. */
-void iocsq_check_pending(const struct iocsq_irp *i); /* its dispatch routine's answer and its completion agree */
+void iocsq_check_pending(const struct iocsq_irp *i); /* its dispatch routine's answer and its
+                                                      * completion agree */
 void iocsq_check_untouched(struct iocsq_irp *i);     /* since its completion */
 
 /* ---- buffers.c ---- */
@@ -99,20 +107,25 @@ struct iocsq_sent {
     ULONG method;
 };
 void iocsq_give_buffers(struct iocsq_irp *i, struct iocsq_sent sent);
-void iocsq_take_buffers(struct iocsq_irp *i); /* at its completion: with the next the state's lock is held */
+void iocsq_take_buffers(struct iocsq_irp *i); /* at its completion: with the next the state's lock
+                                               * is held */
 void iocsq_check_buffers_untouched(const struct iocsq_irp *i);
 void iocsq_free_buffers(struct iocsq_irp *i);
 
 /* ---- manager.c ---- */
-ULONG iocsq_patience(void); /* milliseconds after which a request that should have been completed will never be */
+ULONG iocsq_patience(void); /* milliseconds after which a request that should have been completed
+                             * will never be */
 bool iocsq_wait_for(struct iocsq_irp *i, ULONG milliseconds); /* whether it was completed by then */
 bool iocsq_is_done(void *irp);                /* a struct iocsq_irp: the state's lock is held */
 void iocsq_check_all_completed(void);         /* that a test sent, and untouched since */
 NTSTATUS iocsq_send_and_wait(PFILE_OBJECT file, UCHAR major);
-NTSTATUS iocsq_send_pnp(PDEVICE_OBJECT device, UCHAR minor); /* to the top of its stack; returns once it is completed */
-bool iocsq_sent_unbuffered(void); /* a read or write had no system buffer, since its device's Flags ask for none */
-/* In a dispatch routine that has queued its IRP: now and then the thread goes on only after so long that the IRP was
- * completed meanwhile, and its file object closed, if no more than this request keeps it from that. */
+NTSTATUS iocsq_send_pnp(PDEVICE_OBJECT device, UCHAR minor); /* to the top of its stack; returns
+                                                              * once it is completed */
+bool iocsq_sent_unbuffered(void); /* a read or write had no system buffer, since its device's Flags
+                                   * ask for none */
+/* In a dispatch routine that has queued its IRP: now and then the thread goes on only after so long
+ * that the IRP was completed meanwhile, and its file object closed, if no more than this request
+ * keeps it from that. */
 void iocsq_stay_behind(void);
 
 /* ---- files.c ---- */
@@ -126,7 +139,8 @@ void iocsq_take_over_reference(void);         /* that this thread handed over (I
 /* The driver's references, of ObReferenceObject. Whether it is a file object. */
 bool iocsq_reference_file(PVOID object, int change);
 
-/* ---- turns.c: what each thread has of its own, in one struct, since the bounded mode exchanges it ---- */
+/* ---- turns.c ---- */
+/* What each thread has of its own, in one struct, since the bounded mode exchanges it. */
 enum { IOCSQ_LOCKS = 16 };
 struct iocsq_watch {
     const void *lock;
@@ -153,7 +167,8 @@ struct iocsq_own {
     bool is_processor;
     uint32_t removals;  /* of it before which iocsq might look ahead */
     int report_status;  /* with which its report ends the program; 0: IOCSQ_DISAGREES */
-    bool asks_alone; /* it is in an audit with null as peek context, and the driver itself has never used null */
+    bool asks_alone; /* it is in an audit with null as peek context, and the driver itself has never
+                      * used null */
 };
 extern _Thread_local struct iocsq_own iocsq_own;
 
@@ -166,8 +181,10 @@ bool iocsq_rarely(uint32_t in); /* once in so many times */
 void iocsq_point(void);         /* another thread may come between here */
 void iocsq_long_point(uint32_t in); /* and once in so many times others come between for long */
 /* Notes a call, for the reports; `about` may be null. */
-void iocsq_log(const struct iocsq_irp *about, const char *format, ...) __attribute__((format(printf, 2, 3)));
-void iocsq_log_sent(const struct iocsq_irp *about, const char *format, ...) __attribute__((format(printf, 2, 3)));
+void iocsq_log(const struct iocsq_irp *about, const char *format, ...)
+    __attribute__((format(printf, 2, 3)));
+void iocsq_log_sent(const struct iocsq_irp *about, const char *format, ...)
+    __attribute__((format(printf, 2, 3)));
 /* The driver's fault: reports it, and ends the program. `about` may be null. */
 void iocsq_disagree(const struct iocsq_irp *about, const char *format, ...)
     __attribute__((format(printf, 2, 3), noreturn));
@@ -186,18 +203,21 @@ void iocsq_prepare_places(void);
 /* ---- schedule.c ---- */
 void iocsq_begin_steps(struct iocsq_irp *i);
 void iocsq_step(struct iocsq_irp *i, uint32_t pass, const char *name);
-void iocsq_step_again(struct iocsq_irp *i, const char *name); /* a step of this thread that the protocol refuses */
+void iocsq_step_again(struct iocsq_irp *i, const char *name); /* a step of this thread that the
+                                                               * protocol refuses */
 void iocsq_show_schedule(const struct iocsq_irp *i);
 
 /* ---- turns.c ---- */
 bool iocsq_in_turns(void); /* whether one thread runs at a time */
 uint32_t iocsq_task_count(void); /* the threads that there were */
-void iocsq_forget_priorities(void); /* of the threads that there are: their memory isn't among the variables */
+void iocsq_forget_priorities(void); /* of the threads that there are: their memory isn't among the
+                                     * variables */
 void iocsq_turn_point(void);
 void iocsq_long_turn_point(uint32_t in);
 void iocsq_yield(void); /* lets another thread run, in turns and else */
 /* `is_time`: the wait ends by the clock, which may come early; else the time is only a limit. */
-void iocsq_wait_in_turns(bool (*may_go)(void *), void *of, uint64_t nanoseconds, bool is_time, const char *what);
+void iocsq_wait_in_turns(bool (*may_go)(void *), void *of, uint64_t nanoseconds, bool is_time,
+                         const char *what);
 uint64_t iocsq_now_in_turns(void);
 void iocsq_pass_time_in_turns(uint64_t nanoseconds);
 void iocsq_end_turns_of_thread(void);
@@ -205,10 +225,12 @@ void iocsq_end_turns_of_thread(void);
 /* ---- explore.c ---- */
 bool iocsq_is_bounded(void); /* in turns, and choices are made in the place of draws */
 void iocsq_begin_choices(void);
-/* One of so many options: 0, or what the plan of this run has here. The first `free` of them are no preemptions. */
+/* One of this many options: 0, or what the plan of this run has here. The first `free` of them are
+ * no preemptions. */
 uint32_t iocsq_choose(uint32_t options, uint32_t free);
 
-bool iocsq_is_by_priorities(void); /* threads go on by priorities, and what is drawn else is no choice */
+bool iocsq_is_by_priorities(void); /* threads go on by priorities, and what else is drawn is no
+                                    * choice */
 
 /* ---- priorities.c ---- */
 enum { IOCSQ_DEPTH = 8 }; /* the greatest */
@@ -231,20 +253,24 @@ const struct iocsq_variables *iocsq_save_variables(void); /* null: a sanitizer's
 void iocsq_restore_variables(const struct iocsq_variables *saved);
 
 /* ---- waits.c ---- */
-void iocsq_lock_state(void); /* the lock of what threads wait for, of the IRPs' table and of the file objects */
+void iocsq_lock_state(void); /* the lock of what threads wait for, of the IRPs' table and of the
+                              * file objects */
 void iocsq_unlock_state(void);
 void iocsq_state_changed(void);
-/* Waits until it holds or the time is over, and returns whether it holds. The state's lock is held before and after. */
+/* Waits until it holds or the time is over, and returns whether it holds. The state's lock is held
+ * before and after. */
 bool iocsq_await(bool (*holds)(void *), void *of, uint64_t nanoseconds, const char *what);
 /* The same, where the driver waits until a time. */
 bool iocsq_await_time(bool (*holds)(void *), void *of, uint64_t nanoseconds, const char *what);
 uint64_t iocsq_now(void); /* nanoseconds, in turns those of the turns */
 bool iocsq_is_signaled(void *header);
 void iocsq_begin_header(DISPATCHER_HEADER *header, int type, LONG state);
-void iocsq_expect_header(const DISPATCHER_HEADER *header, const char *call); /* it was initialized */
+/* That it was initialized. */
+void iocsq_expect_header(const DISPATCHER_HEADER *header, const char *call);
 
 /* ---- times.c ---- */
-uint64_t iocsq_nanoseconds_until(LARGE_INTEGER time); /* as the WDK has a time: negative from now on, else the system's */
+uint64_t iocsq_nanoseconds_until(LARGE_INTEGER time); /* as the WDK has a time: negative from now
+                                                       * on, otherwise the system's */
 
 /* ---- threads.c ---- */
 void iocsq_join_threads(void);
@@ -256,13 +282,15 @@ bool iocsq_has_lock(const void *lock);
 uint32_t iocsq_spin_lock_count(void);
 void iocsq_note_lock(const void *lock);   /* this thread has it */
 void iocsq_forget_lock(const void *lock); /* has it no more */
-/* Counts how often this thread releases a lock from now on. What it counted before: for iocsq_end_watch. */
+/* Counts how often this thread releases a lock from now on. What it counted before: for
+ * iocsq_end_watch. */
 struct iocsq_watch iocsq_watch_lock(const void *lock);
 uint32_t iocsq_end_watch(struct iocsq_watch before); /* answers how often it was released */
 
 /* ---- irql.c ---- */
 void iocsq_set_irql(KIRQL level);
-void iocsq_expect_irql(KIRQL most, const char *call); /* the driver makes this call at no higher one */
+void iocsq_expect_irql(KIRQL most, const char *call); /* the driver makes this call at no higher
+                                                       * one */
 
 /* ---- coverage.c ---- */
 /* What is counted beside the callbacks, in the order of its table. */
@@ -279,7 +307,8 @@ enum iocsq_event {
     IOCSQ_CLEANUP,
     IOCSQ_CLEANUP_BEFORE_INSERT,
     IOCSQ_CLEANUP_BEFORE_REFUSAL,
-    IOCSQ_ENDED_WELL, /* how each request was completed, but for those that open and close a file object */
+    IOCSQ_ENDED_WELL, /* how each request was completed, but for those that open and close a file
+                       * object */
     IOCSQ_ENDED_CANCELLED,
     IOCSQ_ENDED_BY_TIME,
     IOCSQ_ENDED_OTHERWISE,
@@ -289,18 +318,23 @@ void iocsq_cover(enum iocsq_event event);
 void iocsq_cover_end(UCHAR major, NTSTATUS status); /* of a request that was completed */
 
 /* ---- deferred.c ---- */
-void iocsq_check_no_deferred(const void *from, size_t size, const char *what); /* no timer or DPC lies in there */
+/* No timer or DPC lies in there. */
+void iocsq_check_no_deferred(const void *from, size_t size, const char *what);
 void iocsq_end_deferred(void);
 
 /* ---- memory.c ---- */
 void iocsq_check_memory_freed(void);
-bool iocsq_is_scarce(const char *call); /* whether this call of the driver's gets no memory (IocsqScarce) */
-void iocsq_expect_nonpaged(const void *at, const char *what); /* it doesn't lie in memory of the paged pool */
-void iocsq_check_no_lookaside(const void *from, size_t size); /* that was not deleted lies in there */
+bool iocsq_is_scarce(const char *call); /* whether this call of the driver's gets no memory
+                                         * (IocsqScarce) */
+void iocsq_expect_nonpaged(const void *at, const char *what); /* it doesn't lie in memory of the
+                                                               * paged pool */
+void iocsq_check_no_lookaside(const void *from, size_t size); /* that was not deleted lies in
+                                                               * there */
 
 /* ---- devices.c ---- */
 bool iocsq_reference_device(PVOID object, int change); /* as iocsq_reference_file */
-/* A work item of it is queued (the state's lock is held), and has run (it isn't). Of what is no device: nothing. */
+/* A work item of it is queued (the state's lock is held), and has run (it isn't). Of what is no
+ * device: nothing. */
 void iocsq_hold_device(const void *object);
 void iocsq_let_go_of_device(const void *object);
 void iocsq_check_links_deleted(void);
@@ -308,16 +342,17 @@ void iocsq_check_links_deleted(void);
 /* ---- search.c ---- */
 /* For the end of a report: says so if iocsq called CsqPeekNextIrp where the framework doesn't. */
 void iocsq_show_own_peeks(void);
-/* As the driver uses a bad address: if this thread is in a peek with null that only iocsq asks for, ends the program with
- * a report that the policy is missing. */
+/* As the driver uses a bad address: if this thread is in a peek with null that only iocsq asks for,
+ * ends the program with a report that the policy is missing. */
 void iocsq_ask_for_policy(void);
 
 /* ---- queue.c ---- */
-void iocsq_end_queues_in(const void *from, size_t size, const char *what); /* whose IO_CSQ lies in there */
+/* Those whose IO_CSQ lies in there. */
+void iocsq_end_queues_in(const void *from, size_t size, const char *what);
 void iocsq_end_queues(void);
 /* One that a file object's cleanup should have ended, and that is still in a queue. Null: none. */
 struct iocsq_irp *iocsq_left_in_queues(uint32_t file);
-bool iocsq_cancel_queued(struct iocsq_irp *i);                   /* whether its cancel routine was a queue's */
+bool iocsq_cancel_queued(struct iocsq_irp *i); /* whether its cancel routine was a queue's */
 void iocsq_complete_held(struct iocsq_irp *i, NTSTATUS status);  /* ends its stay */
 
 #endif

@@ -1,11 +1,12 @@
-/* The IRPs: their table, their way down through stack locations and up through completion routines, and their
- * cancellation. */
+/* The IRPs: their table, their way down through stack locations and up through completion routines,
+ * and their cancellation. */
 #include "internal.h"
 #include "poison.h"
 
 #include <stdlib.h>
 
-static struct iocsq_irp *irps; /* IOCSQ_IRPS of them; the state's lock is held to give one out or take one back */
+static struct iocsq_irp *irps; /* IOCSQ_IRPS of them; the state's lock is held to give one out or
+                                * take one back */
 static uint32_t irp_count;     /* none above was ever used */
 
 __attribute__((constructor)) static void allocate_irps(void) {
@@ -22,7 +23,9 @@ void iocsq_forget_irps(void) {
 /* ---- The table ---- */
 struct iocsq_irp *iocsq_irp_at(const void *irp) {
     uintptr_t offset = (uintptr_t)irp - (uintptr_t)irps;
-    return offset < IOCSQ_IRPS * sizeof *irps && offset % sizeof *irps == 0 ? &irps[offset / sizeof *irps] : NULL;
+    return offset < IOCSQ_IRPS * sizeof *irps && offset % sizeof *irps == 0
+               ? &irps[offset / sizeof *irps]
+               : NULL;
 }
 
 struct iocsq_irp *iocsq_irp_of_entry(const LIST_ENTRY *entry) {
@@ -41,8 +44,9 @@ uint32_t iocsq_irp_count(void) {
 }
 
 const char *iocsq_place_name(const struct iocsq_irp *i) {
-    static const char *const names[] = { "is in no queue", "is in the queue", "was removed from the queue",
-                                         "was taken out as cancelled", "was completed" };
+    static const char *const names[] = { "is in no queue", "is in the queue",
+                                         "was removed from the queue", "was taken out as cancelled",
+                                         "was completed" };
     return names[i->place];
 }
 
@@ -58,12 +62,14 @@ static struct iocsq_irp *known(const void *irp, const char *call) {
 static struct iocsq_irp *in_use(const void *irp, const char *call) {
     struct iocsq_irp *i = known(irp, call);
     if (i->place == IOCSQ_DONE) {
-        iocsq_disagree(i, "%s of irp %u, which was %s", call, i->index, i->own ? "freed" : "completed");
+        iocsq_disagree(i, "%s of irp %u, which was %s", call, i->index,
+                       i->own ? "freed" : "completed");
     }
     return i;
 }
 
-/* An IRP that isn't used, at random: what comes late for an old use should hit another. The state's lock is held. */
+/* An IRP that isn't used, at random: what comes late for an old use should hit another. The state's
+ * lock is held. */
 static struct iocsq_irp *find_unused(void) {
     uint32_t from = irp_count < 64 ? 0 : iocsq_draw(irp_count);
     for (uint32_t at = 0; at < irp_count; at++) {
@@ -100,7 +106,8 @@ static void give_to_driver(struct iocsq_irp *i) {
 void iocsq_check_untouched(struct iocsq_irp *i) {
     give_to_driver(i);
     if (i->irp.IoStatus.Status != gone.Status || i->irp.IoStatus.Information != gone.Information) {
-        iocsq_disagree(i, "irp %u was written to after it was %s", i->index, i->own ? "freed" : "completed");
+        iocsq_disagree(i, "irp %u was written to after it was %s", i->index,
+                       i->own ? "freed" : "completed");
     }
     iocsq_check_buffers_untouched(i);
     take_from_driver(i);
@@ -162,13 +169,14 @@ static void mark_pending(struct iocsq_irp *i) {
 VOID NTAPI IoMarkIrpPending(PIRP Irp) {
     struct iocsq_irp *i = in_use(Irp, "IoMarkIrpPending");
     if (Irp->CurrentLocation > Irp->StackCount) {
-        iocsq_disagree(i, "IoMarkIrpPending of irp %u, which has no current stack location", i->index);
+        iocsq_disagree(i, "IoMarkIrpPending of irp %u, which has no current stack location",
+                       i->index);
     }
     mark_pending(i);
 }
 
-/* What a dispatch routine answers, against what it did with the IRP at this location. The IRP may be in another use by
- * now: then nothing is known of it. */
+/* What a dispatch routine answers, against what it did with the IRP at this location. The IRP may
+ * be in another use by now: then nothing is known of it. */
 static void check_answer(const struct iocsq_irp *i, uint32_t use, int location, NTSTATUS status) {
     uint64_t pending = i->pending;
     bool marked = pending >> location & 1;
@@ -176,11 +184,13 @@ static void check_answer(const struct iocsq_irp *i, uint32_t use, int location, 
         return;
     }
     if (status == STATUS_PENDING && !marked) {
-        iocsq_disagree(i, "the dispatch routine answers STATUS_PENDING, and irp %u was not marked pending", i->index);
+        iocsq_disagree(
+            i, "the dispatch routine answers STATUS_PENDING, and irp %u was not marked pending",
+            i->index);
     }
     if (status != STATUS_PENDING && marked) {
-        iocsq_disagree(i, "irp %u was marked pending, and its dispatch routine answers %08X", i->index,
-                       (unsigned)status);
+        iocsq_disagree(i, "irp %u was marked pending, and its dispatch routine answers %08X",
+                       i->index, (unsigned)status);
     }
 }
 
@@ -243,10 +253,12 @@ static void check_completion(struct iocsq_irp *i) {
         iocsq_disagree(i, "IoCompleteRequest of irp %u with STATUS_PENDING", i->index);
     }
     if (i->irp.CancelRoutine) {
-        iocsq_disagree(i, "IoCompleteRequest of irp %u, which still has a cancel routine", i->index);
+        iocsq_disagree(i, "IoCompleteRequest of irp %u, which still has a cancel routine",
+                       i->index);
     }
     if (i->irp.CurrentLocation > i->irp.StackCount) {
-        iocsq_disagree(i, "IoCompleteRequest of irp %u, which has no current stack location", i->index);
+        iocsq_disagree(i, "IoCompleteRequest of irp %u, which has no current stack location",
+                       i->index);
     }
 }
 
@@ -257,7 +269,8 @@ static bool is_invoked(const struct iocsq_irp *i, const IO_STACK_LOCATION *stack
             (stack->Control & SL_INVOKE_ON_CANCEL && i->irp.Cancel));
 }
 
-/* Calls a completion routine. Whether the completion goes on; if not, the driver has the IRP, or has freed it. */
+/* Calls a completion routine. Whether the completion goes on; if not, the driver has the IRP, or
+ * has freed it. */
 static bool run_completion_routine(struct iocsq_irp *i, const IO_STACK_LOCATION *stack) {
     uint32_t use = i->use;
     bool above = i->irp.CurrentLocation <= i->irp.StackCount;
@@ -269,7 +282,8 @@ static bool run_completion_routine(struct iocsq_irp *i, const IO_STACK_LOCATION 
         return false;
     }
     if (i->use != use) {
-        iocsq_disagree(i, "a completion routine freed irp %u, and answered %08X", i->index, (unsigned)status);
+        iocsq_disagree(i, "a completion routine freed irp %u, and answered %08X", i->index,
+                       (unsigned)status);
     }
     return true;
 }
@@ -293,16 +307,19 @@ static bool go_up(struct iocsq_irp *i) {
 
 void iocsq_check_pending(const struct iocsq_irp *i) {
     if (i->answer == STATUS_PENDING && !i->pending_returned) {
-        iocsq_disagree(i, "irp %u is completed without the pending mark, and its dispatch routine answered "
-                          "STATUS_PENDING: a completion routine did not pass the mark on", i->index);
+        iocsq_disagree(i,
+                       "irp %u is completed without the pending mark, and its dispatch routine "
+                       "answered STATUS_PENDING: a completion routine did not pass the mark on",
+                       i->index);
     }
     if (i->answer != STATUS_PENDING && i->pending_returned) {
-        iocsq_disagree(i, "irp %u is completed with the pending mark, and its dispatch routine answered %08X", i->index,
-                       (unsigned)i->answer);
+        iocsq_disagree(
+            i, "irp %u is completed with the pending mark, and its dispatch routine answered %08X",
+            i->index, (unsigned)i->answer);
     }
     if (i->answer != STATUS_PENDING && i->answer != i->status && !i->passed_on) {
-        iocsq_disagree(i, "the dispatch routine answers %08X, and irp %u was completed with %08X", (unsigned)i->answer,
-                       i->index, (unsigned)i->status);
+        iocsq_disagree(i, "the dispatch routine answers %08X, and irp %u was completed with %08X",
+                       (unsigned)i->answer, i->index, (unsigned)i->status);
     }
 }
 
@@ -354,10 +371,12 @@ VOID NTAPI IofCompleteRequest(PIRP Irp, CCHAR PriorityBoost) {
 PDRIVER_CANCEL NTAPI IoSetCancelRoutine(PIRP Irp, PDRIVER_CANCEL CancelRoutine) {
     struct iocsq_irp *i = in_use(Irp, "IoSetCancelRoutine");
     if (i->place == IOCSQ_LISTED) {
-        iocsq_disagree(i, "IoSetCancelRoutine of irp %u, which is in a cancel-safe queue", i->index);
+        iocsq_disagree(i, "IoSetCancelRoutine of irp %u, which is in a cancel-safe queue",
+                       i->index);
     }
     iocsq_point();
-    iocsq_log(i, "IoSetCancelRoutine(irp %u, %s)", i->index, CancelRoutine ? "one of the driver" : "none");
+    iocsq_log(i, "IoSetCancelRoutine(irp %u, %s)", i->index,
+              CancelRoutine ? "one of the driver" : "none");
     return atomic_exchange(&Irp->CancelRoutine, CancelRoutine);
 }
 
@@ -381,7 +400,8 @@ BOOLEAN NTAPI IoCancelIrp(PIRP Irp) {
     }
     Irp->CancelIrql = before;
     iocsq_cover(IOCSQ_CANCEL_BY_DRIVER);
-    routine(IoGetCurrentIrpStackLocation(Irp)->DeviceObject, Irp); /* which releases the cancel spin lock */
+    routine(IoGetCurrentIrpStackLocation(Irp)->DeviceObject, Irp); /* which releases the cancel spin
+                                                                    * lock */
     return TRUE;
 }
 
@@ -402,7 +422,8 @@ PIRP NTAPI IoAllocateIrp(CCHAR StackSize, BOOLEAN ChargeQuota) {
 static struct iocsq_irp *own_irp(PIRP irp, const char *call) {
     struct iocsq_irp *i = known(irp, call);
     if (!i->own || !i->used) {
-        iocsq_disagree(i, "%s of irp %u, which %s", call, i->index, i->own ? "was freed before" : "is another's");
+        iocsq_disagree(i, "%s of irp %u, which %s", call, i->index,
+                       i->own ? "was freed before" : "is another's");
     }
     if (i->stay || irp->CurrentLocation <= irp->StackCount) {
         iocsq_disagree(i, "%s of irp %u, which %s", call, i->index,

@@ -31,7 +31,8 @@ VOID NTAPI KeLowerIrql(KIRQL NewIrql) {
 void iocsq_expect_irql(KIRQL most, const char *call) {
     static const char *const names[] = { "PASSIVE_LEVEL", "APC_LEVEL", "DISPATCH_LEVEL" };
     if (iocsq_own.irql > most) {
-        const char *level = iocsq_own.irql <= DISPATCH_LEVEL ? names[iocsq_own.irql] : "a higher IRQL";
+        const char *level =
+            iocsq_own.irql <= DISPATCH_LEVEL ? names[iocsq_own.irql] : "a higher IRQL";
         iocsq_disagree(NULL, "%s at %s", call, level);
     }
 }

@@ -31,7 +31,8 @@ struct iocsq_judgement iocsq_judge(uint32_t expected, uint32_t answer, struct io
     return made.verdict == CSQ_PEEK_AGREES ? skips(expected) : made;
 }
 
-struct iocsq_judgement iocsq_judge_any_order(uint32_t left, uint32_t answer, struct iocsq_facts facts) {
+struct iocsq_judgement iocsq_judge_any_order(uint32_t left, uint32_t answer,
+                                             struct iocsq_facts facts) {
     if (answer == IOCSQ_NONE) {
         return left == IOCSQ_NONE ? agrees() : skips(left);
     }

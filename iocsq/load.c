@@ -1,4 +1,5 @@
-/* Drivers: how one is loaded and unloaded, and what ends a run whose driver uses a bad address or takes too long. */
+/* Drivers: how one is loaded and unloaded, and what ends a run whose driver uses a bad address or
+ * takes too long. */
 #define _GNU_SOURCE
 #include "internal.h"
 
@@ -6,7 +7,8 @@
 #include <stdlib.h>
 #include <unistd.h>
 
-/* ---- What ends a run: the text is written first, since nothing else is safe in a signal's handler ---- */
+/* ---- What ends a run ---- */
+/* The text is written first, since nothing else is safe in a signal's handler. */
 static struct sigaction before_segv, before_bus; /* a sanitizer's, or the default */
 
 static void report_bad_address(int signal_number) {
@@ -17,11 +19,12 @@ static void report_bad_address(int signal_number) {
     if (before->sa_handler != SIG_DFL) {
         return; /* to the bad address again, for the sanitizer's own report */
     }
-    int length = snprintf(text, sizeof text, "iocsq: t%u: the driver used a bad address\n", iocsq_thread());
+    int length =
+        snprintf(text, sizeof text, "iocsq: t%u: the driver used a bad address\n", iocsq_thread());
     if (write(STDERR_FILENO, text, (size_t)length) > 0) {
         if (iocsq_sent_unbuffered()) {
-            static const char hint[] = "  A read or write had no system buffer: its device's Flags have neither "
-                                       "DO_BUFFERED_IO nor DO_DIRECT_IO.\n";
+            static const char hint[] = "  A read or write had no system buffer: its device's Flags "
+                                       "have neither DO_BUFFERED_IO nor DO_DIRECT_IO.\n";
             length = (int)write(STDERR_FILENO, hint, sizeof hint - 1);
         }
         iocsq_show_places(true);
@@ -31,7 +34,8 @@ static void report_bad_address(int signal_number) {
 }
 
 static void report_time_over(int signal_number) {
-    static const char text[] = "iocsq: the run takes longer than it may: a thread waits for ever, or goes round.\n";
+    static const char text[] =
+        "iocsq: the run takes longer than it may: a thread waits for ever, or goes round.\n";
     signal(signal_number, SIG_DFL);
     if (write(STDERR_FILENO, text, sizeof text - 1) > 0) {
         iocsq_show_last_calls();
@@ -50,8 +54,8 @@ void __ubsan_on_report(void) {
     iocsq_ask_for_policy();
 }
 
-/* The bounded mode puts the program's variables back between runs in one process, and the handler stays: it isn't its own
- * predecessor, to which it would return for ever. */
+/* The bounded mode puts the program's variables back between runs in one process, and the handler
+ * stays: it isn't its own predecessor, to which it would return for ever. */
 static void catch_signal(int signal_number, struct sigaction *before) {
     struct sigaction action = { .sa_handler = report_bad_address }, was;
     if (sigaction(signal_number, &action, &was) == 0 && was.sa_handler != report_bad_address) {
@@ -86,7 +90,8 @@ static NTSTATUS NTAPI succeed(PDEVICE_OBJECT device, PIRP irp) {
     return complete(irp, STATUS_SUCCESS);
 }
 
-/* A driver, and below it the bus that its device is on, which refuses all but to start, stop and remove it. */
+/* A driver, and below it the bus that its device is on, which refuses all but to start, stop and
+ * remove it. */
 struct loaded {
     DRIVER_OBJECT object; /* first */
     DRIVER_EXTENSION extension;
@@ -100,12 +105,14 @@ static void refuse_all(PDRIVER_OBJECT driver) {
     }
 }
 
-/* As the PnP manager finds a device: the driver's AddDevice attaches one of its own to it, which is started. */
+/* As the PnP manager finds a device: the driver's AddDevice attaches one of its own to it, which is
+ * started. */
 static NTSTATUS add_device(struct loaded *of) {
     refuse_all(&of->bus);
-    of->bus.MajorFunction[IRP_MJ_PNP] = of->bus.MajorFunction[IRP_MJ_CREATE] = of->bus.MajorFunction[IRP_MJ_CLEANUP] =
-        of->bus.MajorFunction[IRP_MJ_CLOSE] = succeed;
-    NTSTATUS status = IoCreateDevice(&of->bus, 0, NULL, FILE_DEVICE_UNKNOWN, 0, FALSE, &of->physical);
+    of->bus.MajorFunction[IRP_MJ_PNP] = of->bus.MajorFunction[IRP_MJ_CREATE] =
+        of->bus.MajorFunction[IRP_MJ_CLEANUP] = of->bus.MajorFunction[IRP_MJ_CLOSE] = succeed;
+    NTSTATUS status =
+        IoCreateDevice(&of->bus, 0, NULL, FILE_DEVICE_UNKNOWN, 0, FALSE, &of->physical);
     if (NT_SUCCESS(status)) {
         status = of->extension.AddDevice(&of->object, of->physical);
     }
@@ -145,7 +152,8 @@ static void check_own_freed(void) {
     for (uint32_t at = 0; at < iocsq_irp_count(); at++) {
         struct iocsq_irp *i = iocsq_irp_number(at);
         if (i->used && i->own) {
-            iocsq_disagree(i, "the driver was unloaded, and irp %u of its own was not freed", i->index);
+            iocsq_disagree(i, "the driver was unloaded, and irp %u of its own was not freed",
+                           i->index);
         }
     }
 }

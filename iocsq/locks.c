@@ -82,20 +82,24 @@ static ULONG_PTR known_owner(const ULONG_PTR *word, const char *what) {
     return owner;
 }
 
-static const ULONG_PTR *waited_for[THREADS]; /* in turns: the word that each thread waits for, by the thread's number */
+static const ULONG_PTR *waited_for[THREADS]; /* in turns: the word that each thread waits for, by
+                                              * the thread's number */
 
 static const ULONG_PTR *awaited_by(ULONG_PTR thread) {
     return thread < THREADS ? waited_for[thread] : NULL;
 }
 
-/* Whether who has the word waits for a word, and so on until one that this thread has: then none of them goes on. */
+/* Whether who has the word waits for a word, and so on until one that this thread has: then none of
+ * them goes on. */
 static void check_circle(const ULONG_PTR *word, ULONG_PTR mine, const char *what) {
     ULONG_PTR first = owner_of(word), last = first;
     for (const ULONG_PTR *next = word; next && last != mine; next = awaited_by(last)) {
         ULONG_PTR owner = owner_of(next);
         if (owner == mine) {
-            iocsq_disagree(NULL, "a deadlock: this thread waits for %s that t%u has, and t%u for a lock that this "
-                                 "thread has", what, (unsigned)first, (unsigned)last);
+            iocsq_disagree(NULL,
+                           "a deadlock: this thread waits for %s that t%u has, and t%u for a lock "
+                           "that this thread has",
+                           what, (unsigned)first, (unsigned)last);
         }
         last = owner;
     }
@@ -117,7 +121,8 @@ static bool try_word(ULONG_PTR *word, const char *what) {
     if (known_owner(word, what) == mine) {
         iocsq_disagree(NULL, "%s is taken again by the thread that has it", what);
     }
-    bool taken = __atomic_compare_exchange_n(word, &expected, mine, 0, __ATOMIC_SEQ_CST, __ATOMIC_SEQ_CST);
+    bool taken =
+        __atomic_compare_exchange_n(word, &expected, mine, 0, __ATOMIC_SEQ_CST, __ATOMIC_SEQ_CST);
     if (taken) {
         iocsq_note_lock(word);
     }
@@ -150,7 +155,8 @@ static void expect_dispatch(const char *call) {
     }
 }
 
-/* `saved`: the call returns the IRQL from which it came, to which the release of the last one goes back. */
+/* `saved`: the call returns the IRQL from which it came, to which the release of the last one goes
+ * back. */
 static void count_spin_lock(KIRQL before, bool saved) {
     if (iocsq_own.spin_lock_count++ == 0) {
         iocsq_own.irql_before = before;
@@ -192,14 +198,17 @@ KIRQL NTAPI KeAcquireSpinLockRaiseToDpc(PKSPIN_LOCK SpinLock) {
     return before;
 }
 
-/* A thread that has a spin lock stays at DISPATCH_LEVEL, and goes back to where it came from as it leaves the last one.
- * (Two may be left in the order in which they were taken, if each release is given the other's IRQL.) */
+/* A thread that has a spin lock stays at DISPATCH_LEVEL, and goes back to where it came from as it
+ * leaves the last one. (Two may be left in the order in which they were taken, if each release is
+ * given the other's IRQL.) */
 static void check_release(KIRQL to) {
     if (iocsq_own.spin_lock_count > 1 && to < DISPATCH_LEVEL) {
-        iocsq_disagree(NULL, "KeReleaseSpinLock to IRQL %u, and this thread has another spin lock", to);
+        iocsq_disagree(NULL, "KeReleaseSpinLock to IRQL %u, and this thread has another spin lock",
+                       to);
     }
     if (iocsq_own.spin_lock_count == 1 && iocsq_own.saved_before && to != iocsq_own.irql_before) {
-        iocsq_disagree(NULL, "KeReleaseSpinLock to IRQL %u, and the thread came from %u", to, iocsq_own.irql_before);
+        iocsq_disagree(NULL, "KeReleaseSpinLock to IRQL %u, and the thread came from %u", to,
+                       iocsq_own.irql_before);
     }
 }
 
@@ -228,8 +237,10 @@ static void begin_handle(PKLOCK_QUEUE_HANDLE handle) {
     iocsq_lock_state();
     uint32_t used = place_of(handle), at = place_of(NULL);
     if (used < HANDLES) {
-        iocsq_disagree(NULL, "a KLOCK_QUEUE_HANDLE is used for an acquire, and t%u uses it for another: each wants its "
-                             "own, on the stack", handles[used].thread);
+        iocsq_disagree(NULL,
+                       "a KLOCK_QUEUE_HANDLE is used for an acquire, and t%u uses it for another: "
+                       "each wants its own, on the stack",
+                       handles[used].thread);
     }
     if (at == HANDLES) {
         iocsq_fail("more than %u queued spin locks at once", (unsigned)HANDLES);
@@ -243,7 +254,8 @@ static void end_handle(const KLOCK_QUEUE_HANDLE *handle) {
     iocsq_lock_state();
     uint32_t at = place_of(handle);
     if (at == HANDLES || handles[at].thread != iocsq_thread()) {
-        iocsq_disagree(NULL, "a KLOCK_QUEUE_HANDLE is released that this thread acquired nothing with");
+        iocsq_disagree(NULL,
+                       "a KLOCK_QUEUE_HANDLE is released that this thread acquired nothing with");
     }
     handles[at].handle = NULL;
     iocsq_unlock_state();
@@ -260,7 +272,8 @@ VOID NTAPI KeReleaseInStackQueuedSpinLock(PKLOCK_QUEUE_HANDLE LockHandle) {
     KeReleaseSpinLock(LockHandle->Lock, LockHandle->OldIrql);
 }
 
-VOID NTAPI KeAcquireInStackQueuedSpinLockAtDpcLevel(PKSPIN_LOCK SpinLock, PKLOCK_QUEUE_HANDLE LockHandle) {
+VOID NTAPI KeAcquireInStackQueuedSpinLockAtDpcLevel(PKSPIN_LOCK SpinLock,
+                                                    PKLOCK_QUEUE_HANDLE LockHandle) {
     expect_dispatch("KeAcquireInStackQueuedSpinLockAtDpcLevel");
     begin_handle(LockHandle);
     LockHandle->Lock = SpinLock;
@@ -286,7 +299,8 @@ static PLIST_ENTRY entry_or_null(PLIST_ENTRY head, PLIST_ENTRY entry) {
     return entry == head ? NULL : entry;
 }
 
-PLIST_ENTRY NTAPI ExInterlockedInsertHeadList(PLIST_ENTRY ListHead, PLIST_ENTRY ListEntry, PKSPIN_LOCK Lock) {
+PLIST_ENTRY NTAPI ExInterlockedInsertHeadList(PLIST_ENTRY ListHead, PLIST_ENTRY ListEntry,
+                                              PKSPIN_LOCK Lock) {
     KIRQL before = KeAcquireSpinLockRaiseToDpc(Lock);
     PLIST_ENTRY first = entry_or_null(ListHead, ListHead->Flink);
     InsertHeadList(ListHead, ListEntry);
@@ -294,7 +308,8 @@ PLIST_ENTRY NTAPI ExInterlockedInsertHeadList(PLIST_ENTRY ListHead, PLIST_ENTRY 
     return first;
 }
 
-PLIST_ENTRY NTAPI ExInterlockedInsertTailList(PLIST_ENTRY ListHead, PLIST_ENTRY ListEntry, PKSPIN_LOCK Lock) {
+PLIST_ENTRY NTAPI ExInterlockedInsertTailList(PLIST_ENTRY ListHead, PLIST_ENTRY ListEntry,
+                                              PKSPIN_LOCK Lock) {
     KIRQL before = KeAcquireSpinLockRaiseToDpc(Lock);
     PLIST_ENTRY last = entry_or_null(ListHead, ListHead->Blink);
     InsertTailList(ListHead, ListEntry);

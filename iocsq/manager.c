@@ -1,11 +1,14 @@
-/* The I/O manager's side, which a test calls (iocsq_test.h): requests. files.c has the file objects. */
+/* The I/O manager's side, which a test calls (iocsq_test.h): requests. files.c has the file
+ * objects. */
 #include "queues.h"
 
 #include <stdlib.h>
 
 enum { MILLISECOND = 1000000 };
-enum { AT_DISPATCH_IN = 4 }; /* cancels, and sends where the policy allows them, come at DISPATCH_LEVEL */
-enum { ONCE_IN = 4, BEHIND = 2000, BEHIND_IN_TURNS = 100000 }; /* of iocsq_stay_behind: microseconds */
+enum { AT_DISPATCH_IN = 4 }; /* cancels, and sends where the policy allows them, come at
+                              * DISPATCH_LEVEL */
+enum { ONCE_IN = 4, BEHIND = 2000, BEHIND_IN_TURNS = 100000 }; /* of iocsq_stay_behind:
+                                                                * microseconds */
 
 static _Atomic bool unbuffered; /* of iocsq_sent_unbuffered */
 
@@ -72,8 +75,8 @@ static void check_after_dispatch(struct iocsq_irp *i, NTSTATUS status, KIRQL bef
     }
     iocsq_unlock_state();
     if (status != STATUS_PENDING && !done) {
-        iocsq_disagree(i, "the dispatch routine answers %08X, and irp %u was not completed", (unsigned)status,
-                       i->index);
+        iocsq_disagree(i, "the dispatch routine answers %08X, and irp %u was not completed",
+                       (unsigned)status, i->index);
     }
     if (iocsq_lock_count() > 0 || KeGetCurrentIrql() != before) {
         iocsq_disagree(i, "the dispatch routine of irp %u returns with a lock or %s IRQL", i->index,
@@ -94,8 +97,9 @@ static void show(struct iocsq_irp *i) {
     }
 }
 
-/* Each time in so many of this thread, if `may`, goes to DISPATCH_LEVEL; returns where KeLowerIrql goes back to. It isn't
- * drawn, so that a seed's run is the same with it. In the bounded mode it never does. */
+/* If `may`, goes to DISPATCH_LEVEL once in AT_DISPATCH_IN times of this thread; returns where
+ * KeLowerIrql goes back to. It isn't drawn, so that a seed's run is the same with it. In the
+ * bounded mode it never does. */
 static KIRQL raise_in_turn(bool may) {
     bool raises = may && !iocsq_is_bounded() && iocsq_own.raisable++ % AT_DISPATCH_IN == 0;
     return raises ? KfRaiseIrql(DISPATCH_LEVEL) : KeGetCurrentIrql();
@@ -108,7 +112,8 @@ static bool is_transfer(UCHAR major) {
 static IOCSQ_REQUEST *send(struct iocsq_irp *i, PDEVICE_OBJECT device) {
     i->sent = iocsq_now();
     show(i);
-    iocsq_log_sent(i, "dispatch(irp %u, major %02x, file %u)", i->index, i->major, iocsq_file_number(i->file));
+    iocsq_log_sent(i, "dispatch(irp %u, major %02x, file %u)", i->index, i->major,
+                   iocsq_file_number(i->file));
     KIRQL before = raise_in_turn(is_transfer(i->major) && iocsq_policy_of(i).DispatchSends);
     KIRQL sent_at = KeGetCurrentIrql();
     NTSTATUS status = iocsq_dispatch(top_of(device), i);
@@ -151,13 +156,15 @@ IOCSQ_REQUEST *IocsqControl(PFILE_OBJECT File, ULONG IoControlCode, PVOID Buffer
     if (!i) {
         return NULL;
     }
-    struct iocsq_sent sent = { Buffer, InputLength, OutputLength, METHOD_FROM_CTL_CODE(IoControlCode) };
+    struct iocsq_sent sent = { Buffer, InputLength, OutputLength,
+                               METHOD_FROM_CTL_CODE(IoControlCode) };
     iocsq_give_buffers(i, sent);
     PIO_STACK_LOCATION stack = IoGetNextIrpStackLocation(&i->irp);
     stack->Parameters.DeviceIoControl.IoControlCode = IoControlCode;
     stack->Parameters.DeviceIoControl.InputBufferLength = InputLength;
     stack->Parameters.DeviceIoControl.OutputBufferLength = OutputLength;
-    stack->Parameters.DeviceIoControl.Type3InputBuffer = sent.method == METHOD_NEITHER ? Buffer : NULL;
+    stack->Parameters.DeviceIoControl.Type3InputBuffer =
+        sent.method == METHOD_NEITHER ? Buffer : NULL;
     i->most = OutputLength;
     return send(i, File->DeviceObject);
 }
@@ -208,8 +215,9 @@ VOID IocsqComplain(IOCSQ_REQUEST *Request, const char *Text) {
     iocsq_disagree(&Request->irp, "irp %u %s", Request->irp.index, Text);
 }
 
-/* Whether it is a test's request that isn't completed or cancelled, but for a cleanup, which nobody cancels, and for what
- * a cleanup left: that should be reported. Then it stays until end_cancel, as a caller of IoCancelIrp has to see to. */
+/* Whether it is a test's request that isn't completed or cancelled, but for a cleanup, which nobody
+ * cancels, and for what a cleanup left: that should be reported. Then it stays until end_cancel, as
+ * a caller of IoCancelIrp has to see to. */
 static bool begin_cancel(struct iocsq_irp *i) {
     iocsq_lock_state();
     bool may = i->used && !i->own && i->file && i->place != IOCSQ_DONE && !i->irp.Cancel &&
@@ -233,8 +241,9 @@ BOOLEAN IocsqCancelAny(VOID) {
     }
     KIRQL before = raise_in_turn(!iocsq_policy_of(i).PassiveCancels);
     bool raised = before < KeGetCurrentIrql();
-    iocsq_set_hint(raised ? "  The cancel came at DISPATCH_LEVEL: if nobody cancels there, since the callbacks wait, the "
-                            "driver's policy says PassiveCancels." : NULL);
+    iocsq_set_hint(raised ? "  The cancel came at DISPATCH_LEVEL: if nobody cancels there, since "
+                            "the callbacks wait, the driver's policy says PassiveCancels."
+                          : NULL);
     BOOLEAN found = IoCancelIrp(&i->irp);
     iocsq_set_hint(NULL);
     KeLowerIrql(before);
@@ -247,7 +256,8 @@ static NTSTATUS wait_and_free(IOCSQ_REQUEST *request) {
         iocsq_fail("out of IRPs");
     }
     if (!IocsqWait(request, iocsq_patience())) {
-        iocsq_disagree(&request->irp, "irp %u (major %02x) was never completed", request->irp.index, request->irp.major);
+        iocsq_disagree(&request->irp, "irp %u (major %02x) was never completed", request->irp.index,
+                       request->irp.major);
     }
     NTSTATUS status = IocsqStatus(request);
     IocsqFree(request);

@@ -14,12 +14,14 @@ struct allocation {
 };
 enum { BUCKETS = 1024 };
 static struct allocation *allocations[BUCKETS];
-static _Atomic uint32_t paged_count; /* of them; written under the state lock, and read without it */
+static _Atomic uint32_t paged_count; /* of them; written under the state lock, and read without
+                                      * it */
 static PNPAGED_LOOKASIDE_LIST lookasides; /* that were not deleted */
 
 /* ---- Scarcity: what asks for memory has to go on without ---- */
 static _Atomic ULONG scarce; /* one in so many allocations fails; 0: none */
-static _Atomic ULONG asked;  /* how often; it isn't drawn which fails, so that a seed's run is the same up to there */
+static _Atomic ULONG asked;  /* how often; it isn't drawn which fails, so that a seed's run is the
+                              * same up to there */
 
 VOID IocsqScarce(ULONG OneIn) {
     scarce = OneIn;
@@ -60,16 +62,19 @@ static void *allocate(size_t size, ULONG tag, bool paged, const char *call) {
 
 PVOID NTAPI ExAllocatePoolWithTag(POOL_TYPE PoolType, SIZE_T NumberOfBytes, ULONG Tag) {
     bool paged = PoolType == PagedPool;
-    void *at = allocate(NumberOfBytes, Tag, paged, paged ? "ExAllocatePool of paged memory" : "ExAllocatePool");
+    void *at = allocate(NumberOfBytes, Tag, paged,
+                        paged ? "ExAllocatePool of paged memory" : "ExAllocatePool");
     if (at) {
-        memset(at, 0xA5, NumberOfBytes); /* not by chance the zeros that a driver must not rely on */
+        memset(at, 0xA5, NumberOfBytes); /* not by chance the zeros that a driver must not rely
+                                          * on */
     }
     return at;
 }
 
 PVOID NTAPI ExAllocatePool2(POOL_FLAGS Flags, SIZE_T NumberOfBytes, ULONG Tag) {
     bool paged = Flags & POOL_FLAG_PAGED;
-    void *at = allocate(NumberOfBytes, Tag, paged, paged ? "ExAllocatePool2 of paged memory" : "ExAllocatePool2");
+    void *at = allocate(NumberOfBytes, Tag, paged,
+                        paged ? "ExAllocatePool2 of paged memory" : "ExAllocatePool2");
     if (at) {
         memset(at, 0, NumberOfBytes);
     }
@@ -114,18 +119,22 @@ void iocsq_check_no_lookaside(const void *from, size_t size) {
     iocsq_lock_state();
     for (PNPAGED_LOOKASIDE_LIST at = lookasides; at; at = at->Next) {
         if (lies_in(at, from, size)) {
-            iocsq_disagree(NULL, "memory goes, and a lookaside list in it (of %zu bytes, tag %08X) was not deleted",
-                           (size_t)at->Size, at->Tag);
+            iocsq_disagree(
+                NULL,
+                "memory goes, and a lookaside list in it (of %zu bytes, tag %08X) was not deleted",
+                (size_t)at->Size, at->Tag);
         }
     }
     iocsq_unlock_state();
 }
 
-/* ---- What was freed, kept for a while: is it written to? The address sanitizer looks by itself, and at reads too ---- */
+/* ---- What was freed, kept for a while: is it written to? ---- */
+/* The address sanitizer looks by itself, and at reads too. */
 #ifdef IOCSQ_POISONS
 enum { KEPT_BYTES = 0, KEPT = 1 };
 #else
-enum { KEPT_BYTES = 4096, KEPT = 256 }; /* larger memory isn't kept, and of smaller so many pieces */
+enum { KEPT_BYTES = 4096, KEPT = 256 }; /* larger memory isn't kept, and of smaller at most KEPT
+                                         * pieces */
 #endif
 static struct allocation kept[KEPT]; /* under the state's lock; `at` null: none */
 static uint32_t kept_next;
@@ -137,8 +146,10 @@ static void expect_untouched(const struct allocation *of) {
         at++;
     }
     if (at < of->size) {
-        iocsq_disagree(NULL, "memory was written to after it was freed: byte %zu of %zu with the tag %08X (make clean test "
-                             "SANITIZE=address shows where)", at, of->size, of->tag);
+        iocsq_disagree(NULL,
+                       "memory was written to after it was freed: byte %zu of %zu with the tag "
+                       "%08X (make clean test SANITIZE=address shows where)",
+                       at, of->size, of->tag);
     }
 }
 
@@ -172,11 +183,13 @@ static void let_go_of_kept(void) {
 static void free_pool(void *at, const ULONG *tag) {
     struct allocation *found = take_allocation(at);
     if (!found) {
-        iocsq_disagree(NULL, "ExFreePool of %s", at ? "memory that was not allocated, or was freed before" : "null");
+        iocsq_disagree(NULL, "ExFreePool of %s",
+                       at ? "memory that was not allocated, or was freed before" : "null");
     }
     if (tag && found->tag != *tag) {
-        iocsq_disagree(NULL, "ExFreePoolWithTag with the tag %08X of memory that was allocated with %08X", *tag,
-                       found->tag);
+        iocsq_disagree(NULL,
+                       "ExFreePoolWithTag with the tag %08X of memory that was allocated with %08X",
+                       *tag, found->tag);
     }
     iocsq_expect_irql(found->paged ? APC_LEVEL : DISPATCH_LEVEL, "ExFreePool");
     iocsq_check_no_lookaside(at, found->size);
@@ -200,8 +213,9 @@ void iocsq_check_memory_freed(void) {
     iocsq_check_no_lookaside(NULL, SIZE_MAX);
     for (uint32_t at = 0; at < BUCKETS; at++) {
         if (allocations[at]) {
-            iocsq_disagree(NULL, "the driver was unloaded, and %zu bytes with the tag %08X were not freed: a reference "
-                                 "to them was not dropped, or they were lost",
+            iocsq_disagree(NULL,
+                           "the driver was unloaded, and %zu bytes with the tag %08X were not "
+                           "freed: a reference to them was not dropped, or they were lost",
                            allocations[at]->size, allocations[at]->tag);
         }
     }
@@ -211,7 +225,8 @@ void iocsq_check_memory_freed(void) {
 static void initialize(PNPAGED_LOOKASIDE_LIST list, NPAGED_LOOKASIDE_LIST fields) {
     iocsq_expect_nonpaged(list, "a lookaside list");
     if (!fields.Allocate != !fields.Free) {
-        iocsq_disagree(NULL, "a lookaside list has one of the routines Allocate and Free, and not the other");
+        iocsq_disagree(
+            NULL, "a lookaside list has one of the routines Allocate and Free, and not the other");
     }
     iocsq_lock_state();
     fields.Next = lookasides;
@@ -220,15 +235,17 @@ static void initialize(PNPAGED_LOOKASIDE_LIST list, NPAGED_LOOKASIDE_LIST fields
     iocsq_unlock_state();
 }
 
-VOID NTAPI ExInitializeNPagedLookasideList(PNPAGED_LOOKASIDE_LIST Lookaside, PALLOCATE_FUNCTION Allocate,
-                                           PFREE_FUNCTION Free, ULONG Flags, SIZE_T Size, ULONG Tag, USHORT Depth) {
+VOID NTAPI ExInitializeNPagedLookasideList(PNPAGED_LOOKASIDE_LIST Lookaside,
+                                           PALLOCATE_FUNCTION Allocate, PFREE_FUNCTION Free,
+                                           ULONG Flags, SIZE_T Size, ULONG Tag, USHORT Depth) {
     NPAGED_LOOKASIDE_LIST fields = { NULL, NonPagedPoolNx, Size, Tag, Allocate, Free };
     (void)Flags, (void)Depth;
     initialize(Lookaside, fields);
 }
 
-VOID NTAPI ExInitializePagedLookasideList(PPAGED_LOOKASIDE_LIST Lookaside, PALLOCATE_FUNCTION Allocate,
-                                          PFREE_FUNCTION Free, ULONG Flags, SIZE_T Size, ULONG Tag, USHORT Depth) {
+VOID NTAPI ExInitializePagedLookasideList(PPAGED_LOOKASIDE_LIST Lookaside,
+                                          PALLOCATE_FUNCTION Allocate, PFREE_FUNCTION Free,
+                                          ULONG Flags, SIZE_T Size, ULONG Tag, USHORT Depth) {
     PAGED_LOOKASIDE_LIST fields = { NULL, PagedPool, Size, Tag, Allocate, Free };
     (void)Flags, (void)Depth;
     initialize(Lookaside, fields);
@@ -247,7 +264,8 @@ static void expect_initialized(const NPAGED_LOOKASIDE_LIST *list, const char *ca
     bool known = *link_of(list) != NULL;
     iocsq_unlock_state();
     if (!known) {
-        iocsq_disagree(NULL, "%s of a lookaside list that was not initialized, or was deleted before", call);
+        iocsq_disagree(
+            NULL, "%s of a lookaside list that was not initialized, or was deleted before", call);
     }
 }
 

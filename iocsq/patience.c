@@ -1,9 +1,10 @@
-/* Requests that wait for ever. A cancel or a cleanup ends any request of a queue, so a wake-up that was lost is seen only
- * if neither comes: each request has to end in its time, unless the policy says that it may wait. One that was cancelled
- * never may. */
+/* Requests that wait for ever. A cancel or a cleanup ends any request of a queue, so a wake-up that
+ * was lost is seen only if neither comes: each request has to end in its time, unless the policy
+ * says that it may wait. One that was cancelled never may. */
 #include "queues.h"
 
-enum { MILLISECOND = 1000000, USUAL = 2000, LOOKS = 5, BETWEEN = 370 }; /* BETWEEN: microseconds, no timer's period */
+/* BETWEEN: microseconds, no timer's period. */
+enum { MILLISECOND = 1000000, USUAL = 2000, LOOKS = 5, BETWEEN = 370 };
 
 BOOLEAN IocsqNoneWaits(PIRP Irp) {
     UNREFERENCED_PARAMETER(Irp);
@@ -21,7 +22,8 @@ BOOLEAN IocsqExpectEnd(IOCSQ_REQUEST *Request) {
     IOCSQ_POLICY policy = iocsq_policy_of(i);
     ULONG within = policy.Within ? policy.Within : (ULONG)USUAL;
     bool cancelled = i->irp.Cancel;
-    for (int look = 0; look < LOOKS; look++) { /* more than once, since a timer may be at work just now */
+    /* More than once, since a timer may be at work just now. */
+    for (int look = 0; look < LOOKS; look++) {
         if (iocsq_wait_for(i, rest_of(i, within))) {
             return TRUE;
         }
@@ -31,9 +33,11 @@ BOOLEAN IocsqExpectEnd(IOCSQ_REQUEST *Request) {
         IocsqPause(BETWEEN);
     }
     if (cancelled) {
-        iocsq_disagree(i, "irp %u (major %02x) %s, and waits for ever, though it was cancelled", i->index, i->major,
-                       iocsq_place_name(i));
+        iocsq_disagree(i, "irp %u (major %02x) %s, and waits for ever, though it was cancelled",
+                       i->index, i->major, iocsq_place_name(i));
     }
-    iocsq_disagree(i, "irp %u (major %02x) %s, and waits for ever: a wake-up was lost, or it may wait and the policy "
-                      "doesn't say so (Waits)", i->index, i->major, iocsq_place_name(i));
+    iocsq_disagree(i,
+                   "irp %u (major %02x) %s, and waits for ever: a wake-up was lost, or it may wait "
+                   "and the policy doesn't say so (Waits)",
+                   i->index, i->major, iocsq_place_name(i));
 }

@@ -1,6 +1,7 @@
-/* Where in the driver a report comes from: the driver's calls on the stack, by file and line, as addr2line of binutils
- * reads them from the program; and the callback that is to blame, if one is, since that has returned. Nothing is
- * printed where the program has no such lines (-g), or where there is no addr2line. */
+/* Where in the driver a report comes from: the driver's calls on the stack, by file and line, as
+ * addr2line of binutils reads them from the program; and the callback that is to blame, if one is,
+ * since that has returned. Nothing is printed where the program has no such lines (-g), or where
+ * there is no addr2line. */
 #define _GNU_SOURCE
 #include "internal.h"
 
@@ -36,7 +37,8 @@ static void add_address(char *command, size_t size, uintptr_t address) {
     snprintf(command + used, size - used, " 0x%lx", (unsigned long)(address - base));
 }
 
-/* That of the stack. An address there is that of the instruction after a call, but for the one at which a signal came. */
+/* That of the stack. An address there is that of the instruction after a call, but for the one at
+ * which a signal came. */
 static void make_command(char *command, size_t size, bool in_signal) {
     void *frames[FRAMES];
     int count = backtrace(frames, FRAMES);
@@ -49,7 +51,8 @@ static void make_command(char *command, size_t size, bool in_signal) {
     }
 }
 
-/* Whether a file is of the checker, of its programs or of its headers: all that isn't the driver. */
+/* Whether a file is of the checker, of its programs or of its headers: all that isn't the
+ * driver. */
 static bool is_own(const char *path) {
     static const char here[] = __FILE__;
     size_t folder = (size_t)(strrchr(here, '/') ? strrchr(here, '/') + 1 - here : 0);
@@ -57,7 +60,8 @@ static bool is_own(const char *path) {
     const char *headers = strstr(path, "/iocsq/");
     if (strncmp(path, here, folder) == 0) {
         const char *rest = path + folder;
-        return rest == name || (strncmp(rest, "tests/", 6) == 0 && rest + 6 == name && strstr(name, ".cpp") == NULL);
+        return rest == name || (strncmp(rest, "tests/", 6) == 0 && rest + 6 == name &&
+                                strstr(name, ".cpp") == NULL);
     }
     return headers && headers + strlen("/iocsq/") == name && strstr(name, ".h:");
 }
@@ -82,10 +86,12 @@ struct place {
     char text[TEXT];
 };
 
-/* Reads the next: a function and a place, and before the first of each address a line of its own. */
+/* Reads the next: a function and a place, and before the first of each address a line of its
+ * own. */
 static bool read_place(FILE *from, struct place *place) {
     while (fgets(place->function, sizeof place->function, from)) {
-        if (strncmp(place->function, "0x", 2) == 0 || !fgets(place->text, sizeof place->text, from)) {
+        if (strncmp(place->function, "0x", 2) == 0 ||
+            !fgets(place->text, sizeof place->text, from)) {
             continue;
         }
         cut_line(place->function);
@@ -116,7 +122,8 @@ static void print_stack(bool in_signal) {
     }
 }
 
-/* Prints where a function is: the last place of its address, since those before are of what is expanded in it. */
+/* Prints where a function is: the last place of its address, since those before are of what is
+ * expanded in it. */
 static void print_function(uintptr_t address) {
     char command[FRAMES * 24];
     struct place place;

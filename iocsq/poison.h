@@ -1,4 +1,5 @@
-/* What the address sanitizer is told of memory that isn't the driver's any more. Without it: nothing. */
+/* What the address sanitizer is told of memory that isn't the driver's any more. Without it:
+ * nothing. */
 #ifndef IOCSQ_POISON_H
 #define IOCSQ_POISON_H
 

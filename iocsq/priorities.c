@@ -1,10 +1,11 @@
-/* Schedules by priorities (probabilistic concurrency testing, PCT): each thread draws a priority, the highest that can go
- * on runs, and at DEPTH - 1 steps, drawn among so many, the thread that runs falls below all others. With N threads and K
- * steps a run shows a fault that DEPTH orders of steps are enough for with a probability of at least
- * 1 / (N * K^(DEPTH - 1)). */
+/* Schedules by priorities (probabilistic concurrency testing, PCT): each thread draws a priority,
+ * the highest that can go on runs, and at DEPTH - 1 steps, drawn among all of a run, the thread
+ * that runs falls below all others. With N threads and K steps a run shows a fault that DEPTH
+ * orders of steps are enough for with a probability of at least 1 / (N * K^(DEPTH - 1)). */
 #include "internal.h"
 
-enum { FIRST = 1 << 20, FALLEN = 1 << 16 }; /* those of new threads are above the first, of fallen ones above the other */
+enum { FIRST = 1 << 20, FALLEN = 1 << 16 }; /* those of new threads are above the first, of fallen
+                                             * ones above the other */
 
 static uint32_t depth; /* 0: no priorities */
 static uint32_t changes[IOCSQ_DEPTH]; /* the steps at which the thread falls that runs */

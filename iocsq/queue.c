@@ -1,5 +1,5 @@
-/* The queue calls of iocsq.h: the driver's callbacks keep the driver's list, a reference queue of csq.h decides beside
- * it, and the first disagreement of the two ends the program. */
+/* The queue calls of iocsq.h: the driver's callbacks keep the driver's list, a reference queue of
+ * csq.h decides beside it, and the first disagreement of the two ends the program. */
 #include "queues.h"
 
 /* ---- The driver's callbacks, with what is asked of each ---- */
@@ -38,8 +38,8 @@ static struct held enter(struct iocsq_queue *q) {
     return held;
 }
 
-/* `last`: the call does nothing else. Then it needs the queue no more once the lock is released: a driver may free it,
- * even before this thread runs again. */
+/* `last`: the call does nothing else. Then it needs the queue no more once the lock is released: a
+ * driver may free it, even before this thread runs again. */
 static void leave(struct iocsq_queue *q, struct held held, bool last) {
     PIO_CSQ csq = q->csq;
     iocsq_point();
@@ -54,16 +54,18 @@ static void leave(struct iocsq_queue *q, struct held held, bool last) {
         iocsq_disagree(NULL, "CsqReleaseLock left a lock taken");
     }
     if (KeGetCurrentIrql() != held.irql_before) {
-        iocsq_disagree(NULL, "CsqReleaseLock left IRQL %u, and CsqAcquireLock found %u", KeGetCurrentIrql(),
-                       held.irql_before);
+        iocsq_disagree(NULL, "CsqReleaseLock left IRQL %u, and CsqAcquireLock found %u",
+                       KeGetCurrentIrql(), held.irql_before);
     }
     iocsq_point();
 }
 
-/* ---- What nobody changes of a queued IRP: a cancel routine reads DriverContext[3] without a lock ---- */
+/* ---- What nobody changes of a queued IRP ---- */
+/* A cancel routine reads DriverContext[3] without a lock. */
 static struct iocsq_tail tail_of(const IRP *irp) {
     struct iocsq_tail tail = { irp->Tail.Overlay.DriverContext[3], irp->Tail.Overlay.Thread,
-                               irp->Tail.Overlay.AuxiliaryBuffer, irp->Tail.Overlay.CurrentStackLocation,
+                               irp->Tail.Overlay.AuxiliaryBuffer,
+                               irp->Tail.Overlay.CurrentStackLocation,
                                irp->Tail.Overlay.OriginalFileObject };
     return tail;
 }
@@ -93,17 +95,20 @@ static void remove_by_driver(struct iocsq_queue *q, struct iocsq_irp *i) {
     iocsq_audit(q, "after CsqRemoveIrp");
 }
 
-/* The last that is done in a call. With the IRP's completion the call needs the queue no more: a driver may free it. */
+/* The last that is done in a call. With the IRP's completion the call needs the queue no more: a
+ * driver may free it. */
 static void complete_by_driver(struct iocsq_queue *q, struct iocsq_irp *i) {
     uint32_t completions = i->completions;
     iocsq_point();
     iocsq_log(i, "  CsqCompleteCanceledIrp(irp %u)", i->index);
     i->call_of = q;
-    iocsq_cover_call(q, IOCSQ_COMPLETE); /* first, as the driver may free the queue with the completion */
+    iocsq_cover_call(q, IOCSQ_COMPLETE); /* first, as the driver may free the queue with the
+                                          * completion */
     iocsq_cover_cancelled(q);
     q->csq->CsqCompleteCanceledIrp(q->csq, &i->irp);
     if (completions == i->completions && !q->policy.CompletesLater) {
-        iocsq_disagree(i, "CsqCompleteCanceledIrp returned, and irp %u was not completed", i->index);
+        iocsq_disagree(i, "CsqCompleteCanceledIrp returned, and irp %u was not completed",
+                       i->index);
     }
     IOCSQ_COUNT(Cancelled);
 }
@@ -140,18 +145,25 @@ bool iocsq_cancel_queued(struct iocsq_irp *i) {
 /* A driver may insert an IRP again that a removal got, and that isn't completed. */
 static void check_insert(struct iocsq_irp *i) {
     if (i->irp.CancelRoutine) {
-        iocsq_disagree(i, "IoCsqInsertIrp of irp %u, which has a cancel routine of the driver", i->index);
+        iocsq_disagree(i, "IoCsqInsertIrp of irp %u, which has a cancel routine of the driver",
+                       i->index);
     }
     switch (iocsq_reference_judge_again(i)) {
     case CSQ_USE_AGREES: break;
     case CSQ_USE_LISTED:
-        iocsq_disagree(i, "IoCsqInsertIrp of irp %u, which is in a queue already: only what was removed may be "
-                          "inserted again", i->index);
+        iocsq_disagree(i,
+                       "IoCsqInsertIrp of irp %u, which is in a queue already: only what was "
+                       "removed may be inserted again",
+                       i->index);
     case CSQ_USE_GOT_CANCELLED:
-        iocsq_disagree(i, "IoCsqInsertIrp of irp %u, which was got cancelled: what CsqCompleteCanceledIrp gets has to "
-                          "be completed", i->index);
+        iocsq_disagree(i,
+                       "IoCsqInsertIrp of irp %u, which was got cancelled: what "
+                       "CsqCompleteCanceledIrp gets has to be completed",
+                       i->index);
     default:
-        iocsq_disagree(i, "IoCsqInsertIrp of irp %u, which was completed: it isn't the driver's any more", i->index);
+        iocsq_disagree(
+            i, "IoCsqInsertIrp of irp %u, which was completed: it isn't the driver's any more",
+            i->index);
     }
 }
 
@@ -159,12 +171,14 @@ static void check_insert(struct iocsq_irp *i) {
 static void check_context(const struct iocsq_irp *i, const IO_CSQ_IRP_CONTEXT *context) {
     const struct iocsq_irp *other = context ? iocsq_irp_at(context->Irp) : NULL;
     if (other && other->context == context && other->place == IOCSQ_LISTED) {
-        iocsq_disagree(i, "IoCsqInsertIrp of irp %u with a context that irp %u is in the queue with", i->index,
-                       other->index);
+        iocsq_disagree(i,
+                       "IoCsqInsertIrp of irp %u with a context that irp %u is in the queue with",
+                       i->index, other->index);
     }
 }
 
-static NTSTATUS insert_by_driver(PIO_CSQ csq, struct iocsq_irp *i, PIO_CSQ_IRP_CONTEXT context, PVOID insert_context) {
+static NTSTATUS insert_by_driver(PIO_CSQ csq, struct iocsq_irp *i, PIO_CSQ_IRP_CONTEXT context,
+                                 PVOID insert_context) {
     NTSTATUS status = STATUS_PENDING;
     i->irp.Tail.Overlay.DriverContext[3] = context ? (PVOID)context : (PVOID)csq;
     i->tail = tail_of(&i->irp);
@@ -188,8 +202,8 @@ static NTSTATUS insert_by_driver(PIO_CSQ csq, struct iocsq_irp *i, PIO_CSQ_IRP_C
     return status;
 }
 
-/* A request that was on its way as a cleanup began may be queued after it, and has to be completed all the same. What the
- * driver had before the cleanup, that ends. */
+/* A request that was on its way as a cleanup began may be queued after it, and has to be completed
+ * all the same. What the driver had before the cleanup, that ends. */
 static void note_file(const struct iocsq_queue *q, struct iocsq_irp *i, bool again) {
     PFILE_OBJECT file = iocsq_irp_file(i);
     uint32_t number = iocsq_file_number(file);
@@ -197,7 +211,8 @@ static void note_file(const struct iocsq_queue *q, struct iocsq_irp *i, bool aga
         if (iocsq_reference_goes_on(&q->reference, i, number)) {
             iocsq_step(i, i->pass, "rearm");
         }
-        iocsq_disagree(i, "irp %u is put back into the queue after IRP_MJ_CLEANUP of its file %u", i->index, number);
+        iocsq_disagree(i, "irp %u is put back into the queue after IRP_MJ_CLEANUP of its file %u",
+                       i->index, number);
     }
     i->late = iocsq_is_closing(file);
     if (i->late) {
@@ -215,7 +230,8 @@ static void cover_insert(struct iocsq_queue *q, bool again) {
 
 static void expect_held(const struct iocsq_irp *i, bool held) {
     if (!held) {
-        iocsq_disagree(i, "irp %u is put back while another thread completes or inserts it", i->index);
+        iocsq_disagree(i, "irp %u is put back while another thread completes or inserts it",
+                       i->index);
     }
 }
 
@@ -225,9 +241,10 @@ static bool put_back_into_reference(struct iocsq_reference *r, struct iocsq_irp 
     return code == CSQ_OK;
 }
 
-/* Inserts into the reference what the driver inserted; `again`: a removal got it before. Whether it is pending; if not
- * it was cancelled before. */
-static bool insert_into_reference(struct iocsq_queue *q, struct iocsq_irp *i, PVOID insert_context, bool again) {
+/* Inserts into the reference what the driver inserted; `again`: a removal got it before. Whether it
+ * is pending; if not it was cancelled before. */
+static bool insert_into_reference(struct iocsq_queue *q, struct iocsq_irp *i, PVOID insert_context,
+                                  bool again) {
     struct iocsq_claim none;
     uint32_t file = iocsq_file_number(iocsq_irp_file(i));
     bool first = q->policy.Place && q->policy.Place(&i->irp, insert_context) != 0;
@@ -238,7 +255,8 @@ static bool insert_into_reference(struct iocsq_queue *q, struct iocsq_irp *i, PV
     }
     iocsq_point();
     expect_held(i, i->stay != 0);
-    /* A cancel sets the IRP's flag, then looks for its stay; here the stay comes first. So one of the two sees it. */
+    /* A cancel sets the IRP's flag, then looks for its stay; here the stay comes first. So one of
+     * the two sees it. */
     if (i->irp.Cancel) {
         iocsq_reference_mark(i, &none); /* takes nothing: no routine is set yet */
     }
@@ -249,11 +267,14 @@ static bool insert_into_reference(struct iocsq_queue *q, struct iocsq_irp *i, PV
 /* The reference knows of a cancel that came before. The framework reads the IRP's flag alone. */
 static void check_flag_stays(const struct iocsq_irp *i) {
     if (!i->irp.Cancel) {
-        iocsq_disagree(i, "irp %u was cancelled, and the driver cleared its Cancel flag before it put it back", i->index);
+        iocsq_disagree(
+            i, "irp %u was cancelled, and the driver cleared its Cancel flag before it put it back",
+            i->index);
     }
 }
 
-NTSTATUS NTAPI IoCsqInsertIrpEx(PIO_CSQ Csq, PIRP Irp, PIO_CSQ_IRP_CONTEXT Context, PVOID InsertContext) {
+NTSTATUS NTAPI IoCsqInsertIrpEx(PIO_CSQ Csq, PIRP Irp, PIO_CSQ_IRP_CONTEXT Context,
+                                PVOID InsertContext) {
     struct iocsq_queue *q = iocsq_queue_of(Csq);
     q->calls++;
     struct iocsq_irp *i = iocsq_known(Irp, "IoCsqInsertIrp of");
@@ -265,7 +286,8 @@ NTSTATUS NTAPI IoCsqInsertIrpEx(PIO_CSQ Csq, PIRP Irp, PIO_CSQ_IRP_CONTEXT Conte
     NTSTATUS status = insert_by_driver(Csq, i, Context, InsertContext);
     if (!NT_SUCCESS(status)) {
         IOCSQ_COUNT(Refused);
-        iocsq_cover(iocsq_is_closing(iocsq_irp_file(i)) ? IOCSQ_CLEANUP_BEFORE_REFUSAL : IOCSQ_REFUSED);
+        iocsq_cover(iocsq_is_closing(iocsq_irp_file(i)) ? IOCSQ_CLEANUP_BEFORE_REFUSAL
+                                                        : IOCSQ_REFUSED);
         iocsq_audit(q, "after an insert that the driver refused");
         leave(q, held, true);
         return status;
@@ -306,10 +328,12 @@ static void log_peek(const struct iocsq_irp *before, const struct iocsq_irp *ans
 /* Whether the driver gets the IRP that it answered: not where a canceller has it. */
 static bool take(struct iocsq_queue *q, struct iocsq_irp *answer) {
     uint32_t verdict = iocsq_reference_remove(&q->reference, answer);
-    /* A last resort, which no driver was seen to reach: a peek's answer was just found in this queue's list, a context
-     * has its IRP until that is removed, and check_lock ends the program where the lock lets another thread in. */
+    /* A last resort, which no driver was seen to reach: a peek's answer was just found in this
+     * queue's list, a context has its IRP until that is removed, and check_lock ends the program
+     * where the lock lets another thread in. */
     if (verdict == CSQ_REMOVE_NOT_LISTED) {
-        iocsq_disagree(answer, "irp %u has gone from the list while this thread has its lock", answer->index);
+        iocsq_disagree(answer, "irp %u has gone from the list while this thread has its lock",
+                       answer->index);
     }
     if (verdict == CSQ_REMOVE_CLAIMED) {
         iocsq_log(answer, "    irp %u is a canceller's", answer->index);
@@ -322,8 +346,9 @@ static bool take(struct iocsq_queue *q, struct iocsq_irp *answer) {
 static void check_peek_context(const struct iocsq_queue *q, PVOID context) {
     if (context && !q->policy.Match && iocsq_file_number(context) == IOCSQ_FILES) {
         iocsq_own.report_status = IOCSQ_NO_POLICY;
-        iocsq_set_hint("  If the driver means it, the Match of its policy says what it means. Otherwise it isn't "
-                       "IoGetCurrentIrpStackLocation(Irp)->FileObject, but its FsContext, say.");
+        iocsq_set_hint(
+            "  If the driver means it, the Match of its policy says what it means. Otherwise it "
+            "isn't IoGetCurrentIrpStackLocation(Irp)->FileObject, but its FsContext, say.");
         iocsq_disagree(NULL, "IoCsqRemoveNextIrp with a peek context that is no file object");
     }
 }
@@ -364,7 +389,8 @@ static struct iocsq_irp *irp_of_context(PIO_CSQ csq, PIO_CSQ_IRP_CONTEXT context
     struct iocsq_irp *i = iocsq_known(context->Irp, "IoCsqRemoveIrp of a context with");
     iocsq_log(i, "IoCsqRemoveIrp(irp %u)", i->index);
     if (context->Csq != csq || i->context != context) {
-        iocsq_disagree(i, "IoCsqRemoveIrp of a context that irp %u was not inserted with", i->index);
+        iocsq_disagree(i, "IoCsqRemoveIrp of a context that irp %u was not inserted with",
+                       i->index);
     }
     return i;
 }
@@ -393,11 +419,16 @@ void iocsq_complete_held(struct iocsq_irp *i, NTSTATUS status) {
     }
     switch (iocsq_reference_complete(i, status)) {
     case CSQ_USE_AGREES: return;
-    case CSQ_USE_LISTED: iocsq_disagree(i, "irp %u is completed while it is in the queue", i->index);
+    case CSQ_USE_LISTED:
+        iocsq_disagree(i, "irp %u is completed while it is in the queue", i->index);
     case CSQ_USE_GOT_CANCELLED:
-        iocsq_disagree(i, "irp %u was got cancelled, and is completed with %08X", i->index, (unsigned)status);
-    /* check_completion has reported STATUS_PENDING: here it is one that another thread wrote since, running freely. */
+        iocsq_disagree(i, "irp %u was got cancelled, and is completed with %08X", i->index,
+                       (unsigned)status);
+    /* check_completion has reported STATUS_PENDING: here it is one that another thread wrote since,
+     * running freely. */
     case CSQ_USE_NOT_FINAL: iocsq_disagree(i, "irp %u is completed with STATUS_PENDING", i->index);
-    default: iocsq_disagree(i, "irp %u is completed while another thread completes or inserts it", i->index);
+    default:
+        iocsq_disagree(i, "irp %u is completed while another thread completes or inserts it",
+                       i->index);
     }
 }

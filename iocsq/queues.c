@@ -3,9 +3,11 @@
 
 #include <stdlib.h>
 
-static struct iocsq_queue *queues[IOCSQ_QUEUES]; /* none is freed before the end, since a canceller may look at it */
+static struct iocsq_queue *queues[IOCSQ_QUEUES]; /* none is freed before the end, since a canceller
+                                                  * may look at it */
 static uint32_t queue_count;
-static pthread_mutex_t queues_mutex = PTHREAD_MUTEX_INITIALIZER; /* of the two, and of each queue's csq */
+static pthread_mutex_t queues_mutex = PTHREAD_MUTEX_INITIALIZER; /* of the two, and of each queue's
+                                                                  * csq */
 static IOCSQ_POLICY first_policy; /* of queues that are initialized from now on */
 
 struct iocsq_queue *iocsq_queue_at(uint32_t index) {
@@ -55,7 +57,8 @@ static void forget(struct iocsq_queue *q, const char *what) {
         iocsq_disagree(i, "%s, and irp %u is in a queue in it", what, i->index);
     }
     if (q->calls > 0) {
-        iocsq_disagree(NULL, "%s, and a call or a cancel routine of a queue in it has not ended", what);
+        iocsq_disagree(NULL, "%s, and a call or a cancel routine of a queue in it has not ended",
+                       what);
     }
     q->csq = NULL;
 }
@@ -91,9 +94,11 @@ struct iocsq_irp *iocsq_left_in_queues(uint32_t file) {
 /* ---- Beginning ---- */
 static struct iocsq_queue *new_queue(void) {
     if (queue_count == IOCSQ_QUEUES) {
-        iocsq_disagree(NULL, "IoCsqInitialize beside %u queues, and %u file objects are open: memory with queues in it "
-                             "is never freed, as where a reference to it is never dropped (or else the driver has more "
-                             "queues than iocsq has room for)", queue_count, iocsq_open_files());
+        iocsq_disagree(NULL,
+                       "IoCsqInitialize beside %u queues, and %u file objects are open: memory "
+                       "with queues in it is never freed, as where a reference to it is never "
+                       "dropped (or else the driver has more queues than iocsq has room for)",
+                       queue_count, iocsq_open_files());
     }
     struct iocsq_queue *q = calloc(1, sizeof *q);
     if (!q) {
@@ -133,8 +138,8 @@ static void begin(PIO_CSQ csq) {
 }
 
 static NTSTATUS initialize(PIO_CSQ csq, IO_CSQ all) {
-    if (!all.CsqInsertIrp || !all.CsqRemoveIrp || !all.CsqPeekNextIrp || !all.CsqAcquireLock || !all.CsqReleaseLock ||
-        !all.CsqCompleteCanceledIrp) {
+    if (!all.CsqInsertIrp || !all.CsqRemoveIrp || !all.CsqPeekNextIrp || !all.CsqAcquireLock ||
+        !all.CsqReleaseLock || !all.CsqCompleteCanceledIrp) {
         iocsq_disagree(NULL, "a callback of IoCsqInitialize is null");
     }
     *csq = all;
@@ -142,8 +147,10 @@ static NTSTATUS initialize(PIO_CSQ csq, IO_CSQ all) {
     return STATUS_SUCCESS;
 }
 
-NTSTATUS NTAPI IoCsqInitialize(PIO_CSQ Csq, PIO_CSQ_INSERT_IRP CsqInsertIrp, PIO_CSQ_REMOVE_IRP CsqRemoveIrp,
-                               PIO_CSQ_PEEK_NEXT_IRP CsqPeekNextIrp, PIO_CSQ_ACQUIRE_LOCK CsqAcquireLock,
+NTSTATUS NTAPI IoCsqInitialize(PIO_CSQ Csq, PIO_CSQ_INSERT_IRP CsqInsertIrp,
+                               PIO_CSQ_REMOVE_IRP CsqRemoveIrp,
+                               PIO_CSQ_PEEK_NEXT_IRP CsqPeekNextIrp,
+                               PIO_CSQ_ACQUIRE_LOCK CsqAcquireLock,
                                PIO_CSQ_RELEASE_LOCK CsqReleaseLock,
                                PIO_CSQ_COMPLETE_CANCELED_IRP CsqCompleteCanceledIrp) {
     IO_CSQ all = { IO_TYPE_CSQ,    CsqInsertIrp,   CsqRemoveIrp,           CsqPeekNextIrp,
@@ -151,13 +158,18 @@ NTSTATUS NTAPI IoCsqInitialize(PIO_CSQ Csq, PIO_CSQ_INSERT_IRP CsqInsertIrp, PIO
     return initialize(Csq, all);
 }
 
-NTSTATUS NTAPI IoCsqInitializeEx(PIO_CSQ Csq, PIO_CSQ_INSERT_IRP_EX CsqInsertIrp, PIO_CSQ_REMOVE_IRP CsqRemoveIrp,
-                                 PIO_CSQ_PEEK_NEXT_IRP CsqPeekNextIrp, PIO_CSQ_ACQUIRE_LOCK CsqAcquireLock,
+NTSTATUS NTAPI IoCsqInitializeEx(PIO_CSQ Csq, PIO_CSQ_INSERT_IRP_EX CsqInsertIrp,
+                                 PIO_CSQ_REMOVE_IRP CsqRemoveIrp,
+                                 PIO_CSQ_PEEK_NEXT_IRP CsqPeekNextIrp,
+                                 PIO_CSQ_ACQUIRE_LOCK CsqAcquireLock,
                                  PIO_CSQ_RELEASE_LOCK CsqReleaseLock,
                                  PIO_CSQ_COMPLETE_CANCELED_IRP CsqCompleteCanceledIrp) {
-    void (*insert)(void) = (void (*)(void))CsqInsertIrp; /* as the WDK's struct has it: one field for both */
-    IO_CSQ all = { IO_TYPE_CSQ_EX, (PIO_CSQ_INSERT_IRP)insert, CsqRemoveIrp,           CsqPeekNextIrp,
-                   CsqAcquireLock, CsqReleaseLock,             CsqCompleteCanceledIrp, NULL };
+    void (*insert)(void) = (void (*)(void))CsqInsertIrp; /* as the WDK's struct has it: one field
+                                                          * for both */
+    IO_CSQ all = { IO_TYPE_CSQ_EX,         (PIO_CSQ_INSERT_IRP)insert,
+                   CsqRemoveIrp,           CsqPeekNextIrp,
+                   CsqAcquireLock,         CsqReleaseLock,
+                   CsqCompleteCanceledIrp, NULL };
     return initialize(Csq, all);
 }
 
@@ -179,11 +191,13 @@ static void check_touch(const LIST_ENTRY *entry, const char *call, const char *h
     struct iocsq_irp *i = iocsq_irp_of_entry(entry);
     const struct iocsq_reference *r = i && i->place == IOCSQ_LISTED ? iocsq_reference_of(i) : NULL;
     if (r && !iocsq_has_lock(iocsq_queue_at(r->index)->lock)) {
-        iocsq_disagree(i, "%s %s irp %u, which is in the queue, without the queue's lock", call, how, i->index);
+        iocsq_disagree(i, "%s %s irp %u, which is in the queue, without the queue's lock", call,
+                       how, i->index);
     }
 }
 
-VOID IocsqTouch(const LIST_ENTRY *Entry, const LIST_ENTRY *Before, const LIST_ENTRY *After, const char *Call) {
+VOID IocsqTouch(const LIST_ENTRY *Entry, const LIST_ENTRY *Before, const LIST_ENTRY *After,
+                const char *Call) {
     check_touch(Entry, Call, "of");
     check_touch(Before, Call, "beside");
     check_touch(After, Call, "beside");

@@ -4,8 +4,8 @@
 #include "reference.h"
 
 /* ---- coverage.c: the queues with the same callbacks are of one kind ---- */
-enum iocsq_callback { IOCSQ_INSERT, IOCSQ_REMOVE, IOCSQ_PEEK, IOCSQ_ACQUIRE, IOCSQ_RELEASE, IOCSQ_COMPLETE,
-                      IOCSQ_CALLBACKS };
+enum iocsq_callback { IOCSQ_INSERT, IOCSQ_REMOVE, IOCSQ_PEEK, IOCSQ_ACQUIRE, IOCSQ_RELEASE,
+                      IOCSQ_COMPLETE, IOCSQ_CALLBACKS };
 struct iocsq_queue;
 struct iocsq_kind;
 struct iocsq_kind *iocsq_kind_of(const IO_CSQ *csq); /* the queues' mutex is held */
@@ -35,7 +35,8 @@ IOCSQ_POLICY iocsq_policy_of(const struct iocsq_irp *i);
 PFILE_OBJECT iocsq_irp_file(struct iocsq_irp *i); /* null: it has none */
 
 /* ---- queue.c: the driver's lock is held ---- */
-void iocsq_check_tail(const struct iocsq_irp *i, const char *when); /* it is as it went into the queue */
+/* It is as it went into the queue. */
+void iocsq_check_tail(const struct iocsq_irp *i, const char *when);
 
 /* ---- search.c: the driver's lock is held ---- */
 struct iocsq_search {

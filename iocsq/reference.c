@@ -22,7 +22,8 @@ static void expect(uint32_t code, uint32_t expected, const char *call) {
     }
 }
 
-/* ---- Passes: any is taken for one call, but what one holds or owes is ended through the same ---- */
+/* ---- Passes ---- */
+/* Any is taken for one call, but what one holds or owes is ended through the same. */
 uint32_t iocsq_pass_of_thread(void) {
     return iocsq_thread() % IOCSQ_PASSES;
 }
@@ -49,8 +50,12 @@ static void return_pass(struct iocsq_reference *r, uint32_t pass) {
 
 /* ---- Beginning and end ---- */
 void iocsq_reference_begin(struct iocsq_reference *r, uint32_t index) {
-    const struct csq_size size = { .irps = IOCSQ_SLOTS, .files = IOCSQ_NUMBERS, .limit = IOCSQ_SLOTS,
-                                   .passes = IOCSQ_PASSES, .first_life = 0, .list = CSQ_CHAINS };
+    const struct csq_size size = { .irps = IOCSQ_SLOTS,
+                                   .files = IOCSQ_NUMBERS,
+                                   .limit = IOCSQ_SLOTS,
+                                   .passes = IOCSQ_PASSES,
+                                   .first_life = 0,
+                                   .list = CSQ_CHAINS };
     r->index = index;
     pthread_mutex_init(&r->mutex, NULL);
     expect(csq_new(&r->queue, &size), CSQ_OK, "csq_new");
@@ -70,7 +75,8 @@ void iocsq_reference_end(struct iocsq_reference *r) {
         expect(csq_give_back(&r->queue, &r->passes[at].pass), CSQ_OK, "csq_give_back");
     }
     expect(csq_close(&r->queue), CSQ_OK, "csq_close");
-    expect(csq_read_listed(&r->queue, CSQ_ANY, &left), CSQ_NONE, "csq_read_listed of the emptied queue");
+    expect(csq_read_listed(&r->queue, CSQ_ANY, &left), CSQ_NONE,
+           "csq_read_listed of the emptied queue");
     expect(csq_free(&r->queue), CSQ_OK, "csq_free");
     references[r->index] = NULL;
 }
@@ -91,8 +97,8 @@ uint32_t iocsq_reference_next(struct iocsq_reference *r, uint32_t after, uint32_
     return code == CSQ_OK ? next.irp : CSQ_ANY;
 }
 
-uint32_t iocsq_reference_judge(struct iocsq_reference *r, uint32_t after, uint32_t file, uint32_t answer,
-                               uint32_t *skipped) {
+uint32_t iocsq_reference_judge(struct iocsq_reference *r, uint32_t after, uint32_t file,
+                               uint32_t answer, uint32_t *skipped) {
     uint32_t verdict = CSQ_PEEK_SKIPS; /* of none, where `after` has gone meanwhile */
     pthread_mutex_lock(&r->mutex);
     uint32_t code = csq_judge_peek(&r->queue, after, file, answer, &verdict, skipped);
@@ -111,7 +117,8 @@ uint32_t iocsq_reference_len(struct iocsq_reference *r) {
     return len;
 }
 
-/* The listed IRPs that a cleanup may leave: those that came after it began, and those that are cancelled. */
+/* The listed IRPs that a cleanup may leave: those that came after it began, and those that are
+ * cancelled. */
 static size_t excused_in(const struct iocsq_reference *r, uint32_t *slots) {
     size_t count = 0;
     for (uint32_t slot = 0; slot < IOCSQ_SLOTS; slot++) {
@@ -167,7 +174,8 @@ static void settle(struct iocsq_irp *i, uint32_t pass, const char *step, uint32_
     i->place = code == CSQ_OK ? IOCSQ_LISTED : IOCSQ_CANCELLED;
 }
 
-bool iocsq_reference_insert(struct iocsq_reference *r, struct iocsq_irp *i, uint32_t file, bool first) {
+bool iocsq_reference_insert(struct iocsq_reference *r, struct iocsq_irp *i, uint32_t file,
+                            bool first) {
     struct csq_irp context, irp = irp_of(i->stay);
     pthread_mutex_lock(&r->mutex);
     uint32_t pass = lend_pass(r);
@@ -182,7 +190,8 @@ bool iocsq_reference_insert(struct iocsq_reference *r, struct iocsq_irp *i, uint
     return code == CSQ_OK;
 }
 
-bool iocsq_reference_goes_on(const struct iocsq_reference *r, const struct iocsq_irp *i, uint32_t file) {
+bool iocsq_reference_goes_on(const struct iocsq_reference *r, const struct iocsq_irp *i,
+                             uint32_t file) {
     uint64_t stay = i->stay;
     return stay && reference_of(stay) == r && r->files[irp_of(stay).irp] == file;
 }
@@ -267,9 +276,12 @@ void iocsq_reference_run_routine(const struct iocsq_claim *claim, struct iocsq_i
     pthread_mutex_unlock(&r->mutex);
 }
 
-/* The next life of its slot begins, and the slot is free. The queue's mutex and the pass's are held. */
-static void free_slot(struct iocsq_reference *r, struct iocsq_irp *i, struct csq_irp irp, uint32_t pass) {
-    expect(csq_reuse(&r->queue, &r->passes[pass].pass, irp, &r->lives[irp.irp]), CSQ_OK, "csq_reuse");
+/* The next life of its slot begins, and the slot is free. The queue's mutex and the pass's are
+ * held. */
+static void free_slot(struct iocsq_reference *r, struct iocsq_irp *i, struct csq_irp irp,
+                      uint32_t pass) {
+    expect(csq_reuse(&r->queue, &r->passes[pass].pass, irp, &r->lives[irp.irp]), CSQ_OK,
+           "csq_reuse");
     i->stay = 0;
     i->place = IOCSQ_HOME;
     r->by_slot[irp.irp] = NULL;
@@ -283,11 +295,13 @@ struct use {
     NTSTATUS status;
 };
 
-static uint32_t judge_use(struct iocsq_reference *r, uint32_t pass, struct csq_irp irp, struct use use) {
+static uint32_t judge_use(struct iocsq_reference *r, uint32_t pass, struct csq_irp irp,
+                          struct use use) {
     struct csq_pass *by = &r->passes[pass].pass;
     uint32_t verdict = CSQ_USE_NOT_HELD;
-    uint32_t code = use.inserts ? csq_judge_insert(&r->queue, by, irp, &verdict)
-                                : csq_judge_complete(&r->queue, by, irp, (uint32_t)use.status, &verdict);
+    uint32_t code = use.inserts
+                        ? csq_judge_insert(&r->queue, by, irp, &verdict)
+                        : csq_judge_complete(&r->queue, by, irp, (uint32_t)use.status, &verdict);
     expect(code, CSQ_OK, use.inserts ? "csq_judge_insert" : "csq_judge_complete");
     return verdict;
 }
@@ -313,13 +327,15 @@ static uint32_t end_stay(struct iocsq_irp *i, struct use use) {
     return verdict;
 }
 
-/* An insert of an IRP that stays in a queue, or stayed there: right or wrong, it sets the routine again. */
+/* An insert of an IRP that stays in a queue, or stayed there: right or wrong, it sets the routine
+ * again. */
 static const struct use again = { "rearm", true, STATUS_SUCCESS };
 
 uint32_t iocsq_reference_judge_again(struct iocsq_irp *i) {
     int place = i->place;
     bool may = place == IOCSQ_REMOVED || (place == IOCSQ_HOME && !i->stay);
-    return may ? (uint32_t)CSQ_USE_AGREES : end_stay(i, again); /* which ends nothing: no pass holds it by a removal */
+    return may ? (uint32_t)CSQ_USE_AGREES : end_stay(i, again); /* which ends nothing: no pass holds
+                                                                 * it by a removal */
 }
 
 bool iocsq_reference_leave(struct iocsq_irp *i) {

@@ -13,7 +13,8 @@ VOID NTAPI IoInitializeRemoveLockEx(PIO_REMOVE_LOCK Lock, ULONG AllocateTag, ULO
     KeInitializeEvent(&Lock->RemoveEvent, NotificationEvent, FALSE);
 }
 
-NTSTATUS NTAPI IoAcquireRemoveLockEx(PIO_REMOVE_LOCK RemoveLock, PVOID Tag, PCSTR File, ULONG Line, ULONG RemlockSize) {
+NTSTATUS NTAPI IoAcquireRemoveLockEx(PIO_REMOVE_LOCK RemoveLock, PVOID Tag, PCSTR File, ULONG Line,
+                                     ULONG RemlockSize) {
     NTSTATUS status = STATUS_SUCCESS;
     (void)File, (void)Line, (void)RemlockSize;
     iocsq_point();
@@ -43,7 +44,8 @@ static void release(PIO_REMOVE_LOCK lock, PVOID tag) {
         lock->Tags[at] = lock->Tags[count - 1];
         lock->TagCount--;
     } else if (lock->IoCount - 1 == (LONG)count) {
-        iocsq_disagree(iocsq_irp_at(tag), "IoReleaseRemoveLock with a tag that no acquire has, or that was released");
+        iocsq_disagree(iocsq_irp_at(tag),
+                       "IoReleaseRemoveLock with a tag that no acquire has, or that was released");
     }
     if (--lock->IoCount == 0) {
         lock->RemoveEvent.Header.SignalState = 1;
@@ -64,16 +66,18 @@ VOID NTAPI IoReleaseRemoveLockAndWaitEx(PIO_REMOVE_LOCK RemoveLock, PVOID Tag, U
     iocsq_expect_irql(PASSIVE_LEVEL, "IoReleaseRemoveLockAndWait");
     iocsq_lock_state();
     if (RemoveLock->Removed) {
-        iocsq_disagree(NULL, "IoReleaseRemoveLockAndWait of a remove lock that was waited for before");
+        iocsq_disagree(NULL,
+                       "IoReleaseRemoveLockAndWait of a remove lock that was waited for before");
     }
     RemoveLock->Removed = TRUE;
     release(RemoveLock, Tag);
     if (--RemoveLock->IoCount == 0) {
         RemoveLock->RemoveEvent.Header.SignalState = 1;
     }
-    if (!iocsq_await(iocsq_is_signaled, &RemoveLock->RemoveEvent.Header, TEN_SECONDS, "a remove lock")) {
-        iocsq_disagree(iocsq_irp_at(RemoveLock->Tags[0]), "IoReleaseRemoveLockAndWait waits for an acquire that is "
-                                                          "never released");
+    if (!iocsq_await(iocsq_is_signaled, &RemoveLock->RemoveEvent.Header, TEN_SECONDS,
+                     "a remove lock")) {
+        iocsq_disagree(iocsq_irp_at(RemoveLock->Tags[0]),
+                       "IoReleaseRemoveLockAndWait waits for an acquire that is never released");
     }
     iocsq_unlock_state();
 }
@@ -120,8 +124,10 @@ VOID FASTCALL ExWaitForRundownProtectionRelease(PEX_RUNDOWN_REF RunRef) {
     iocsq_lock_state();
     RunRef->Count |= REFUSES;
     RunRef->Released.Header.SignalState = RunRef->Count == REFUSES;
-    if (!iocsq_await(iocsq_is_signaled, &RunRef->Released.Header, TEN_SECONDS, "rundown protection")) {
-        iocsq_disagree(NULL, "ExWaitForRundownProtectionRelease waits for an acquire that is never released");
+    if (!iocsq_await(iocsq_is_signaled, &RunRef->Released.Header, TEN_SECONDS,
+                     "rundown protection")) {
+        iocsq_disagree(
+            NULL, "ExWaitForRundownProtectionRelease waits for an acquire that is never released");
     }
     iocsq_unlock_state();
 }

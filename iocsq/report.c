@@ -17,7 +17,8 @@ struct line {
     uint32_t thread;
     char text[TEXT];
 };
-/* The last lines of one IRP, since it was sent: they are kept however many others come after them. */
+/* The last lines of one IRP, since it was sent: they are kept however many others come after
+ * them. */
 struct history {
     uint64_t count;
     struct line lines[SHOWN_OF_IRP];
@@ -103,8 +104,10 @@ void iocsq_long_point(uint32_t in) {
     }
 }
 
-/* ---- Lines: threads write them without a lock, since one that is torn as it is shown does no harm ---- */
-__attribute__((no_sanitize("thread"))) static void write_line(struct line *to, uint64_t number, const char *text) {
+/* ---- Lines ---- */
+/* Threads write them without a lock, since one that is torn as it is shown does no harm. */
+__attribute__((no_sanitize("thread"))) static void write_line(struct line *to, uint64_t number,
+                                                              const char *text) {
     to->number = number;
     to->thread = iocsq_thread();
     for (size_t at = 0; at < TEXT; at++) {
@@ -113,7 +116,8 @@ __attribute__((no_sanitize("thread"))) static void write_line(struct line *to, u
 }
 
 /* `sent`: the line is its first. */
-__attribute__((no_sanitize("thread"))) static void write_history(uint32_t irp, bool sent, uint64_t number,
+__attribute__((no_sanitize("thread"))) static void write_history(uint32_t irp, bool sent,
+                                                                 uint64_t number,
                                                                  const char *text) {
     struct history *of = &histories[irp];
     if (sent) {
@@ -122,8 +126,8 @@ __attribute__((no_sanitize("thread"))) static void write_history(uint32_t irp, b
     write_line(&of->lines[of->count++ % SHOWN_OF_IRP], number, text);
 }
 
-__attribute__((format(printf, 3, 0))) static void add_line(const struct iocsq_irp *about, bool sent, const char *format,
-                                                           va_list rest) {
+__attribute__((format(printf, 3, 0))) static void add_line(const struct iocsq_irp *about, bool sent,
+                                                           const char *format, va_list rest) {
     char text[TEXT] = "";
     uint64_t number = next_line++;
     vsnprintf(text, sizeof text, format, rest);
@@ -148,12 +152,13 @@ void iocsq_log_sent(const struct iocsq_irp *about, const char *format, ...) {
 }
 
 /* Shows the last so many lines, of a ring with room for `room`, to which `count` were written. */
-__attribute__((no_sanitize("thread"))) static void show(const struct line *of, uint64_t count, uint64_t room,
-                                                        uint64_t most) {
+__attribute__((no_sanitize("thread"))) static void show(const struct line *of, uint64_t count,
+                                                        uint64_t room, uint64_t most) {
     uint64_t shown = count < most ? count : most;
     for (uint64_t at = count - shown; at < count; at++) {
         const struct line *line = &of[at % room];
-        fprintf(stderr, "  %6llu t%-3u %s\n", (unsigned long long)line->number, line->thread, line->text);
+        fprintf(stderr, "  %6llu t%-3u %s\n", (unsigned long long)line->number, line->thread,
+                line->text);
     }
 }
 

@@ -1,5 +1,6 @@
-/* A stay in a queue as a schedule of csqsim: the atomic steps on the one IRP, which is named 0 there, each by its pass.
- * Only in turns they are kept: where threads run freely, the order of two steps of different threads isn't known. */
+/* A stay in a queue as a schedule of csqsim: the atomic steps on the one IRP, which is named 0
+ * there, each by its pass. Only in turns they are kept: where threads run freely, the order of two
+ * steps of different threads isn't known. */
 #include "reference.h"
 
 enum { CSQSIM_PASSES = 4 }; /* unless it is set otherwise */
@@ -15,8 +16,9 @@ static bool is_step(const struct iocsq_step *step, uint32_t pass, const char *na
     return step->pass == pass && strcmp(step->name, name) == 0;
 }
 
-/* Makes room where an IRP is put back often: leaves out the first removal that was followed by a put-back at once. No
- * cancel stands between them, so the IRP is listed before these three steps as it is after them. */
+/* Makes room where an IRP is put back often: leaves out the first removal that was followed by a
+ * put-back at once. No cancel stands between them, so the IRP is listed before these three steps as
+ * it is after them. */
 static void leave_out_put_back(struct iocsq_irp *i) {
     for (uint32_t at = 0; at + 2 < IOCSQ_STEPS; at++) {
         struct iocsq_step *step = &i->steps[at];
@@ -92,7 +94,9 @@ void iocsq_show_schedule(const struct iocsq_irp *i) {
     struct names names = names_of_steps(i);
     show_heading(i, names.count);
     for (uint32_t at = 0; at < i->step_count; at++) {
-        const char *irp = strcmp(i->steps[at].name, "end") == 0 ? "" : " 0"; /* a removal's end names none */
-        fprintf(stderr, "    p%u %s%s\n", name_of_pass(&names, i->steps[at].pass), i->steps[at].name, irp);
+        /* A removal's end names none. */
+        const char *irp = strcmp(i->steps[at].name, "end") == 0 ? "" : " 0";
+        fprintf(stderr, "    p%u %s%s\n", name_of_pass(&names, i->steps[at].pass),
+                i->steps[at].name, irp);
     }
 }

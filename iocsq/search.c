@@ -1,19 +1,20 @@
-/* Searches through the driver's list by its CsqPeekNextIrp: each answer is compared with that of the reference. */
+/* Searches through the driver's list by its CsqPeekNextIrp: each answer is compared with that of
+ * the reference. */
 #include "judge.h"
 #include "queues.h"
 
 #include <unistd.h>
 
-enum { AUDITED = 64 };  /* a longer list is looked through now and then alone */
-enum { LOOKED_IN = 16 }; /* of so many removals of a thread one is looked ahead of */
+enum { AUDITED = 64 };  /* a longer list is looked through only now and then */
+enum { LOOKED_IN = 16 }; /* one in this many removals of a thread is looked ahead of */
 
 static _Atomic bool has_own_peeks; /* iocsq called CsqPeekNextIrp where the framework doesn't */
 
 void iocsq_show_own_peeks(void) {
     if (has_own_peeks) {
-        fprintf(stderr, "  iocsq itself called CsqPeekNextIrp too, where the framework does not. If a "
-                        "call of it does more than return an IRP, the driver's policy says "
-                        "PeekHasEffects.\n");
+        fprintf(stderr,
+                "  iocsq itself called CsqPeekNextIrp too, where the framework does not. If a call "
+                "of it does more than return an IRP, the driver's policy says PeekHasEffects.\n");
     }
 }
 
@@ -30,7 +31,8 @@ static bool matches(const struct iocsq_search *s, struct iocsq_irp *i) {
     return s->context == NULL || s->context == (PVOID)iocsq_irp_file(i);
 }
 
-/* The first match after a slot, or with `unseen` the first that wasn't an answer yet. IOCSQ_NONE: there is none. */
+/* The first match after a slot, or with `unseen` the first that wasn't an answer yet. IOCSQ_NONE:
+ * there is none. */
 static uint32_t next_match(const struct iocsq_search *s, uint32_t after, bool unseen) {
     struct iocsq_reference *r = &s->q->reference;
     uint32_t slot = after;
@@ -66,13 +68,15 @@ static bool stands_after(const struct iocsq_search *s, uint32_t slot) {
     return at == slot;
 }
 
-/* The answer as a number: an IRP that isn't listed has no slot, and is none that could be expected. */
+/* The answer as a number: an IRP that isn't listed has no slot, and is none that could be
+ * expected. */
 static uint32_t answer_number(const struct iocsq_irp *answer, uint32_t slot) {
     return answer && slot == IOCSQ_NONE ? (uint32_t)IOCSQ_SLOTS : slot;
 }
 
 /* `slot` is the answer's in the reference, or IOCSQ_NONE. */
-static struct iocsq_judgement judge(const struct iocsq_search *s, struct iocsq_irp *answer, uint32_t slot) {
+static struct iocsq_judgement judge(const struct iocsq_search *s, struct iocsq_irp *answer,
+                                    uint32_t slot) {
     bool listed = slot != IOCSQ_NONE, any_order = s->q->policy.AnyOrder;
     struct iocsq_facts facts = { listed, listed && matches(s, answer), false };
     if (any_order) {
@@ -89,7 +93,8 @@ static struct iocsq_judgement judge(const struct iocsq_search *s, struct iocsq_i
 }
 
 /* The report of a judgement that isn't Agrees. */
-static void complain(const struct iocsq_search *s, const struct iocsq_irp *answer, struct iocsq_judgement judgement) {
+static void complain(const struct iocsq_search *s, const struct iocsq_irp *answer,
+                     struct iocsq_judgement judgement) {
     const struct iocsq_irp *skipped =
         judgement.skipped == IOCSQ_NONE ? NULL : s->q->reference.by_slot[judgement.skipped];
     char given[32] = "none";
@@ -108,16 +113,20 @@ static void complain(const struct iocsq_search *s, const struct iocsq_irp *answe
     }
     switch (judgement.verdict) {
     case CSQ_PEEK_SKIPS:
-        iocsq_disagree(skipped, "%s: CsqPeekNextIrp answered %s, and skipped irp %u, a match", s->when, given,
-                       skipped->index);
+        iocsq_disagree(skipped, "%s: CsqPeekNextIrp answered %s, and skipped irp %u, a match",
+                       s->when, given, skipped->index);
     case CSQ_PEEK_NOT_LISTED:
         iocsq_disagree(answer, "%s: CsqPeekNextIrp answered %s, which %s", s->when, given,
-                       answer->place == IOCSQ_LISTED ? "is in another queue" : iocsq_place_name(answer));
+                       answer->place == IOCSQ_LISTED ? "is in another queue"
+                                                     : iocsq_place_name(answer));
     case CSQ_PEEK_NO_MATCH:
-        iocsq_disagree(answer, "%s: CsqPeekNextIrp answered %s, which is no match of the peek context", s->when, given);
+        iocsq_disagree(answer,
+                       "%s: CsqPeekNextIrp answered %s, which is no match of the peek context",
+                       s->when, given);
     default:
         iocsq_disagree(answer, "%s: CsqPeekNextIrp answered %s, which %s irp %u", s->when, given,
-                       s->q->policy.AnyOrder ? "came before in this search, after" : "does not stand after",
+                       s->q->policy.AnyOrder ? "came before in this search, after"
+                                             : "does not stand after",
                        s->before ? s->before->index : answer->index);
     }
 }
@@ -158,8 +167,8 @@ void iocsq_audit(struct iocsq_queue *q, const char *when) {
     IOCSQ_COUNT(Audits);
     iocsq_own.asks_alone = !iocsq_has_null_contexts(q);
     if (iocsq_own.asks_alone) {
-        iocsq_set_hint("  iocsq asked with null as peek context, which the driver never does: if null doesn't mean any "
-                       "IRP to it, its policy says NoAudit.");
+        iocsq_set_hint("  iocsq asked with null as peek context, which the driver never does: if "
+                       "null doesn't mean any IRP to it, its policy says NoAudit.");
     }
     peek_to_the_last(&s);
     iocsq_own.asks_alone = false;
@@ -183,8 +192,8 @@ void iocsq_look_ahead(const struct iocsq_search *of) {
     struct iocsq_search s = *of;
     const char *hint = iocsq_own.hint;
     s.ahead = true;
-    iocsq_set_hint("  iocsq peeks at all matches first, each time after the last answer, as the framework does past an IRP "
-                   "that a canceller has.");
+    iocsq_set_hint("  iocsq peeks at all matches first, each time after the last answer, as the "
+                   "framework does past an IRP that a canceller has.");
     peek_to_the_last(&s);
     iocsq_set_hint(hint);
 }
@@ -192,8 +201,9 @@ void iocsq_look_ahead(const struct iocsq_search *of) {
 /* Called by a signal's handler: the text is written first, as nothing else is safe there. */
 void iocsq_ask_for_policy(void) {
     static const char text[] =
-        "iocsq: the policy is missing: iocsq asked CsqPeekNextIrp with null as peek context, which the driver itself "
-        "never does, and it used a bad address. If null doesn't mean any IRP to the driver, its policy says NoAudit.\n";
+        "iocsq: the policy is missing: iocsq asked CsqPeekNextIrp with null as peek context, which "
+        "the driver itself never does, and it used a bad address. If null doesn't mean any IRP to "
+        "the driver, its policy says NoAudit.\n";
     if (iocsq_own.asks_alone && write(STDERR_FILENO, text, sizeof text - 1) > 0) {
         iocsq_show_last_calls();
         _exit(IOCSQ_NO_POLICY);

@@ -1,4 +1,5 @@
-/* Threads of the driver, and references to what drivers refer to: threads, file objects, devices. */
+/* Threads of the driver, and references to what drivers refer to: threads, file objects,
+ * devices. */
 #define _GNU_SOURCE
 #include "internal.h"
 
@@ -46,8 +47,9 @@ static void *run_thread(void *object) {
     return NULL;
 }
 
-NTSTATUS NTAPI PsCreateSystemThread(PHANDLE ThreadHandle, ULONG DesiredAccess, POBJECT_ATTRIBUTES ObjectAttributes,
-                                    HANDLE ProcessHandle, PCLIENT_ID ClientId, PKSTART_ROUTINE StartRoutine,
+NTSTATUS NTAPI PsCreateSystemThread(PHANDLE ThreadHandle, ULONG DesiredAccess,
+                                    POBJECT_ATTRIBUTES ObjectAttributes, HANDLE ProcessHandle,
+                                    PCLIENT_ID ClientId, PKSTART_ROUTINE StartRoutine,
                                     PVOID StartContext) {
     (void)DesiredAccess, (void)ObjectAttributes, (void)ProcessHandle, (void)ClientId;
     iocsq_expect_irql(PASSIVE_LEVEL, "PsCreateSystemThread");
@@ -99,8 +101,9 @@ static struct thread_object *thread_of_handle(HANDLE handle, const char *call) {
     return object;
 }
 
-NTSTATUS NTAPI ObReferenceObjectByHandle(HANDLE Handle, ACCESS_MASK DesiredAccess, POBJECT_TYPE ObjectType,
-                                         KPROCESSOR_MODE AccessMode, PVOID *Object, PVOID HandleInformation) {
+NTSTATUS NTAPI ObReferenceObjectByHandle(HANDLE Handle, ACCESS_MASK DesiredAccess,
+                                         POBJECT_TYPE ObjectType, KPROCESSOR_MODE AccessMode,
+                                         PVOID *Object, PVOID HandleInformation) {
     (void)DesiredAccess, (void)ObjectType, (void)AccessMode, (void)HandleInformation;
     struct thread_object *object = thread_of_handle(Handle, "ObReferenceObjectByHandle");
     object->references++;
@@ -121,7 +124,8 @@ static bool reference_thread(PVOID object, int change) {
     if (of) {
         of->references += change;
         if (of->references < 0) {
-            iocsq_disagree(NULL, "ObDereferenceObject of a thread, more often than it was referenced");
+            iocsq_disagree(NULL,
+                           "ObDereferenceObject of a thread, more often than it was referenced");
         }
     }
     return of != NULL;
@@ -150,9 +154,9 @@ VOID IocsqDereferenceObject(PVOID Object) {
 static void check_thread(const struct thread_object *object) {
     iocsq_lock_state();
     const char *left = object->header.SignalState <= 0 ? "a thread of it has not ended"
-                       : object->references > 0        ? "a reference to a thread of it was never dropped"
-                       : object->open                  ? "a handle of a thread of it was never closed"
-                                                       : NULL;
+                       : object->references > 0 ? "a reference to a thread of it was never dropped"
+                       : object->open           ? "a handle of a thread of it was never closed"
+                                                : NULL;
     iocsq_unlock_state();
     if (left) {
         iocsq_disagree(NULL, "the driver was unloaded, and %s", left);

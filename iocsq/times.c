@@ -3,7 +3,8 @@
 
 /* In units of 100 nanoseconds. */
 enum { NANOSECONDS = 100, TICK = 156250, A_SECOND = 10000000 };
-#define BEGINNING INT64_C(132000000000000000) /* the system time at which the checker's clock is 0: some day of 2019 */
+/* The system time at which the checker's clock is 0: some day of 2019. */
+#define BEGINNING INT64_C(132000000000000000)
 
 static int64_t units(void) {
     return (int64_t)(iocsq_now() / NANOSECONDS);

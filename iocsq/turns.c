@@ -1,7 +1,8 @@
-/* Turns: with a seed one thread runs at a time, and at each point the next one is drawn from the seed. So a run is the
- * same whenever its seed is, a wait takes no time, and threads that all wait for each other are reported. In the
- * bounded mode the next one is a choice of explore.c in the place of a draw, and threads are contexts of one thread of
- * the system, since a switch between those takes too long. */
+/* Turns: with a seed one thread runs at a time, and at each point the next one is drawn from the
+ * seed. So a run is the same whenever its seed is, a wait takes no time, and threads that all wait
+ * for each other are reported. In the bounded mode the next one is a choice of explore.c in the
+ * place of a draw, and threads are contexts of one thread of the system, since a switch between
+ * those takes too long. */
 #define _GNU_SOURCE
 #include "contexts.h"
 #include "internal.h"
@@ -20,7 +21,8 @@
 
 enum { TASKS = 256, TURN_NANOSECONDS = 10000, SHORT_REST = 400, LONG_REST = 4000 };
 enum { EARLY_IN = 16 }; /* by priorities: so often the clock comes early */
-enum { GOES_ROUND = 2000 }; /* points without a switch: the thread waits for another, though it doesn't say so */
+enum { GOES_ROUND = 2000 }; /* points without a switch: the thread waits for another, though it
+                             * doesn't say so */
 
 /* A thread, as it takes turns. */
 struct task {
@@ -32,7 +34,8 @@ struct task {
     void *of;
     const char *waits_for;
     uint64_t until;  /* when it goes on in any case */
-    uint64_t rests;  /* until so many turns were given: now and then a thread is passed over for long */
+    uint64_t rests;  /* until this many turns were given: now and then a thread is passed over for
+                      * long */
     uint32_t number; /* as iocsq_thread returns it */
     bool is_time;    /* `until` is a time, and no limit */
     bool done;
@@ -108,7 +111,8 @@ VOID IocsqTurns(ULONG Seed) {
 
 VOID IocsqBounded(VOID) {
 #ifdef THREAD_SANITIZER
-    iocsq_fail("the bounded mode is not for the thread sanitizer, which has to see threads of the system");
+    iocsq_fail(
+        "the bounded mode is not for the thread sanitizer, which has to see threads of the system");
 #endif
     iocsq_begin_choices();
     iocsq_begin_contexts(TASKS);
@@ -133,7 +137,8 @@ static void report_deadlock(void) {
     iocsq_disagree(NULL, "every thread waits for another");
 }
 
-/* Fills in the tasks that may go and don't rest, and returns how many. Where all that may go rest, none rests on. */
+/* Fills in the tasks that may go and don't rest, and returns how many. Where all that may go rest,
+ * none rests on. */
 static uint32_t find_able(struct task **able) {
     uint32_t count = 0, resting = 0;
     for (uint32_t at = 0; at < task_count; at++) {
@@ -184,10 +189,11 @@ static struct task *draw_next(void) {
 }
 
 /* ---- The bounded mode: who is next is a choice ---- */
-/* Two threads of the system that wait for the same work: it makes no difference which of them goes on. */
+/* Two threads of the system that wait for the same work: it makes no difference which of them goes
+ * on. */
 static bool is_twin(const struct task *t, const struct task *other) {
-    return t->may_go && t->may_go == other->may_go && !t->of && !other->of && t->start == other->start &&
-           t->context == other->context;
+    return t->may_go && t->may_go == other->may_go && !t->of && !other->of &&
+           t->start == other->start && t->context == other->context;
 }
 
 static bool has_twin(struct task **options, uint32_t count, const struct task *t) {
@@ -211,12 +217,14 @@ static uint32_t find_others(struct task **options, uint32_t count) {
     return count;
 }
 
-/* One whose wait ends by the clock, before any other: the clock may come just now. Null: there is none. */
+/* One whose wait ends by the clock, before any other: the clock may come just now. Null: there is
+ * none. */
 static struct task *find_early(void) {
     uint64_t soonest = soonest_end_of_wait();
     for (uint32_t at = 0; at < task_count; at++) {
         struct task *t = &tasks[at];
-        if (t->is_time && t->until == soonest && soonest != IOCSQ_FOR_EVER && !t->done && !is_ready(t)) {
+        if (t->is_time && t->until == soonest && soonest != IOCSQ_FOR_EVER && !t->done &&
+            !is_ready(t)) {
             return t;
         }
     }
@@ -230,19 +238,21 @@ static uint32_t priority_of(struct task *t) {
     return t->priority;
 }
 
-/* The option with the highest priority; now and then one whose wait ends by the clock. Where this thread only goes round
- * it falls below all others. */
-static struct task *highest_of(struct task **options, uint32_t count, struct task *early, bool goes_round) {
+/* The option with the highest priority; now and then one whose wait ends by the clock. Where this
+ * thread only goes round it falls below all others. */
+static struct task *highest_of(struct task **options, uint32_t count, struct task *early,
+                               bool goes_round) {
     struct task *next = options[0];
-    self->priority = goes_round ? iocsq_lowest_priority() : iocsq_priority_after_step(priority_of(self));
+    self->priority =
+        goes_round ? iocsq_lowest_priority() : iocsq_priority_after_step(priority_of(self));
     for (uint32_t at = 1; at < count; at++) {
         next = priority_of(options[at]) > priority_of(next) ? options[at] : next;
     }
     return early && iocsq_draw_by_priorities(EARLY_IN) == 0 ? early : next;
 }
 
-/* Option 0 is to go on, where the thread can; another is a preemption then. Where it waits, or goes round, the switch is
- * free, but for the clock that comes early. Null: nobody can go on. */
+/* Option 0 is to go on, where the thread can; another is a preemption then. Where it waits, or goes
+ * round, the switch is free, but for the clock that comes early. Null: nobody can go on. */
 static struct task *choose_next(bool waits) {
     struct task *options[TASKS + 2];
     uint32_t count = 0;
@@ -262,13 +272,15 @@ static struct task *choose_next(bool waits) {
         options[count++] = early;
     }
     uint32_t others = early ? count - 1 : count;
-    struct task *next = iocsq_is_by_priorities() ? highest_of(options, others, early, waits && is_ready(self))
-                                                 : options[iocsq_choose(count, free)];
+    struct task *next = iocsq_is_by_priorities()
+                            ? highest_of(options, others, early, waits && is_ready(self))
+                            : options[iocsq_choose(count, free)];
     if (next == early) {
         now = early->until;
     }
     if (!waits && next != self) {
-        iocsq_log(NULL, "-- t%u is preempted by t%u%s", self->number, next->number, next == early ? ": the clock" : "");
+        iocsq_log(NULL, "-- t%u is preempted by t%u%s", self->number, next->number,
+                  next == early ? ": the clock" : "");
     }
     return next;
 }
@@ -361,7 +373,8 @@ void iocsq_yield(void) {
     }
 }
 
-void iocsq_wait_in_turns(bool (*may_go)(void *), void *of, uint64_t nanoseconds, bool is_time, const char *what) {
+void iocsq_wait_in_turns(bool (*may_go)(void *), void *of, uint64_t nanoseconds, bool is_time,
+                         const char *what) {
     pthread_mutex_lock(&baton);
     self->may_go = may_go;
     self->of = of;

@@ -1,5 +1,5 @@
-/* The program's variables, so that a run can begin again with the values that they had: those of iocsq, of the test
- * and of the driver, but for what is allocated, which a run frees itself. */
+/* The program's variables, so that a run can begin again with the values that they had: those of
+ * iocsq, of the test and of the driver, but for what is allocated, which a run frees itself. */
 #include "internal.h"
 
 #include <stdlib.h>
@@ -12,7 +12,8 @@
 #endif
 #endif
 
-/* Of the C library and the linker: all variables of the program, but for those of its shared libraries. */
+/* Of the C library and the linker: all variables of the program, but for those of its shared
+ * libraries. */
 extern char __data_start[], _end[];
 
 struct iocsq_variables {

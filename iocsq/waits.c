@@ -1,5 +1,5 @@
-/* What threads wait for: events, mutexes, semaphores, timers, threads. All of it, with the table of IRPs, is under one
- * lock, the state's, and one condition signals each change. */
+/* What threads wait for: events, mutexes, semaphores, timers, threads. All of it, with the table of
+ * IRPs, is under one lock, the state's, and one condition signals each change. */
 #define _GNU_SOURCE
 #include "internal.h"
 
@@ -7,7 +7,8 @@
 #include <pthread.h>
 #include <time.h>
 
-enum { MUTANT = 2, SEMAPHORE = 5 }; /* beside the EVENT_TYPEs, the threads of threads.c, the timers of deferred.c */
+enum { MUTANT = 2, SEMAPHORE = 5 }; /* beside the EVENT_TYPEs, the threads of threads.c, the timers
+                                     * of deferred.c */
 enum { INITIALIZED = 0x6C71 };
 enum { SECOND = 1000000000 };
 
@@ -45,7 +46,8 @@ static struct timespec time_after(uint64_t nanoseconds) {
     return until;
 }
 
-static bool await(bool (*holds)(void *), void *of, uint64_t nanoseconds, bool is_time, const char *what) {
+static bool await(bool (*holds)(void *), void *of, uint64_t nanoseconds, bool is_time,
+                  const char *what) {
     struct timespec until = time_after(nanoseconds == IOCSQ_FOR_EVER ? 0 : nanoseconds);
     int code = 0;
     if (nanoseconds > 0 && iocsq_in_turns() && !holds(of)) {
@@ -54,8 +56,9 @@ static bool await(bool (*holds)(void *), void *of, uint64_t nanoseconds, bool is
         pthread_mutex_lock(&state_mutex);
     }
     while (nanoseconds > 0 && !iocsq_in_turns() && !holds(of) && code != ETIMEDOUT) {
-        code = nanoseconds == IOCSQ_FOR_EVER ? pthread_cond_wait(&state_condition, &state_mutex)
-                                             : pthread_cond_timedwait(&state_condition, &state_mutex, &until);
+        code = nanoseconds == IOCSQ_FOR_EVER
+                   ? pthread_cond_wait(&state_condition, &state_mutex)
+                   : pthread_cond_timedwait(&state_condition, &state_mutex, &until);
     }
     return holds(of);
 }
@@ -180,14 +183,15 @@ LONG NTAPI KeReadStateSemaphore(PRKSEMAPHORE Semaphore) {
     return state_of(&Semaphore->Header, "KeReadStateSemaphore");
 }
 
-LONG NTAPI KeReleaseSemaphore(PRKSEMAPHORE Semaphore, KPRIORITY Increment, LONG Adjustment, BOOLEAN Wait) {
+LONG NTAPI KeReleaseSemaphore(PRKSEMAPHORE Semaphore, KPRIORITY Increment, LONG Adjustment,
+                              BOOLEAN Wait) {
     (void)Increment, (void)Wait;
     iocsq_expect_header(&Semaphore->Header, "KeReleaseSemaphore");
     iocsq_lock_state();
     LONG before = Semaphore->Header.SignalState;
     if (Adjustment < 1 || Adjustment > Semaphore->Limit - before) {
-        iocsq_disagree(NULL, "KeReleaseSemaphore by %d of a semaphore at %d, whose limit is %d", Adjustment, before,
-                       Semaphore->Limit);
+        iocsq_disagree(NULL, "KeReleaseSemaphore by %d of a semaphore at %d, whose limit is %d",
+                       Adjustment, before, Semaphore->Limit);
     }
     Semaphore->Header.SignalState += Adjustment;
     iocsq_state_changed();
@@ -226,7 +230,8 @@ static bool is_over(void *of) {
 
 /* What a thread takes from an object as its wait for it ends. */
 static void take_signal(DISPATCHER_HEADER *header) {
-    if (header->Type == SynchronizationEvent || header->Type == SEMAPHORE || header->Type == MUTANT) {
+    if (header->Type == SynchronizationEvent || header->Type == SEMAPHORE ||
+        header->Type == MUTANT) {
         header->SignalState--;
     }
     if (header->Type == MUTANT) {
@@ -257,8 +262,9 @@ static uint64_t nanoseconds_of(const LARGE_INTEGER *timeout) {
     return iocsq_nanoseconds_until(*timeout);
 }
 
-NTSTATUS NTAPI KeWaitForMultipleObjects(ULONG Count, PVOID Object[], WAIT_TYPE WaitType, KWAIT_REASON Reason,
-                                        KPROCESSOR_MODE Mode, BOOLEAN Alertable, PLARGE_INTEGER Timeout,
+NTSTATUS NTAPI KeWaitForMultipleObjects(ULONG Count, PVOID Object[], WAIT_TYPE WaitType,
+                                        KWAIT_REASON Reason, KPROCESSOR_MODE Mode,
+                                        BOOLEAN Alertable, PLARGE_INTEGER Timeout,
                                         PKWAIT_BLOCK WaitBlockArray) {
     DISPATCHER_HEADER *objects[MAXIMUM_WAIT_OBJECTS];
     struct wait wait = { objects, Count, WaitType, iocsq_thread() };
@@ -282,12 +288,13 @@ NTSTATUS NTAPI KeWaitForMultipleObjects(ULONG Count, PVOID Object[], WAIT_TYPE W
     return status;
 }
 
-NTSTATUS NTAPI KeWaitForSingleObject(PVOID Object, KWAIT_REASON Reason, KPROCESSOR_MODE Mode, BOOLEAN Alertable,
-                                     PLARGE_INTEGER Timeout) {
+NTSTATUS NTAPI KeWaitForSingleObject(PVOID Object, KWAIT_REASON Reason, KPROCESSOR_MODE Mode,
+                                     BOOLEAN Alertable, PLARGE_INTEGER Timeout) {
     return KeWaitForMultipleObjects(1, &Object, WaitAny, Reason, Mode, Alertable, Timeout, NULL);
 }
 
-NTSTATUS NTAPI KeDelayExecutionThread(KPROCESSOR_MODE Mode, BOOLEAN Alertable, PLARGE_INTEGER Interval) {
+NTSTATUS NTAPI KeDelayExecutionThread(KPROCESSOR_MODE Mode, BOOLEAN Alertable,
+                                      PLARGE_INTEGER Interval) {
     (void)Mode, (void)Alertable;
     iocsq_expect_irql(APC_LEVEL, "KeDelayExecutionThread");
     sleep_for(nanoseconds_of(Interval), true);

@@ -9,7 +9,7 @@ case without `rows` is one row. The keys:
     last            a further word, which need not be text
     files           files that lie where the program runs, by name
     stdin           "fails": an input that can't be read
-    stdout, stderr  "full": a device that takes nothing; stdout also "closed": a pipe that nobody reads
+    stdout, stderr  "full": a device that takes nothing; stdout also "closed": a pipe whose reading end is closed
     input           the input, empty unless it is given
     output, errors  what the program writes, whole; nothing unless it is given, or one of the next is
     output-start, output-parts, output-end, errors-start, errors-parts

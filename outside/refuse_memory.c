@@ -1,9 +1,9 @@
 /*
  * Preloaded into a program: refuses calls of its for memory.
  *
- * REFUSE_AT=N refuses its Nth call of malloc or realloc, from 0 on, and REFUSE_ALL=1 each later one too. REPORT is the
- * number of a descriptor: a byte is written to it for each refused call, and with SIZES=1 the size of each call on a
- * line of its own.
+ * REFUSE_AT=N refuses its Nth call of malloc or realloc, from 0 on, and REFUSE_ALL=1 each later one
+ * too. REPORT is the number of a descriptor: a byte is written to it for each refused call, and
+ * with SIZES=1 the size of each call on a line of its own.
  */
 #define _GNU_SOURCE
 #include <errno.h>

@@ -1,6 +1,6 @@
 /*
- * Preloaded into a program: REFUSE_THREAD=N refuses its Nth call of pthread_create, from 0 on, and REFUSE_ALL=1 each
- * later one too.
+ * Preloaded into a program: REFUSE_THREAD=N refuses its Nth call of pthread_create, from 0 on, and
+ * REFUSE_ALL=1 each later one too.
  */
 #define _GNU_SOURCE
 #include <dlfcn.h>
@@ -12,7 +12,8 @@ typedef int creator(pthread_t *, const pthread_attr_t *, void *(*)(void *), void
 
 static long calls;
 
-int pthread_create(pthread_t *thread, const pthread_attr_t *attributes, void *(*body)(void *), void *argument)
+int pthread_create(pthread_t *thread, const pthread_attr_t *attributes, void *(*body)(void *),
+                   void *argument)
 {
     creator *create;
     const char *at = getenv("REFUSE_THREAD");

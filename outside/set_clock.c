@@ -1,6 +1,6 @@
 /*
- * Preloaded into a program: CLOCK_STEP=N lets N nanoseconds pass from each reading of its monotonic clock to the next,
- * and CLOCK_FAILS=1 lets each reading fail. Other clocks are read as ever.
+ * Preloaded into a program: CLOCK_STEP=N lets N nanoseconds pass from each reading of its monotonic
+ * clock to the next, and CLOCK_FAILS=1 lets each reading fail. Other clocks are read as ever.
  */
 #define _GNU_SOURCE
 #include <dlfcn.h>

@@ -1,9 +1,10 @@
 /*
  * Preloaded into a program: it reads and writes a byte at a time.
  *
- * READS names the descriptor that is read so, 0 where it isn't set; FAIL_READ=N lets it fail after N bytes, and with
- * INTERRUPTED=1 each read is interrupted once. WRITES names the descriptor that is written so, 1 where it isn't set;
- * FAIL_WRITE=N lets it fail after N bytes, or with TAKES_NOTHING=1 take nothing.
+ * READS names the descriptor that is read so, 0 where it isn't set; FAIL_READ=N lets it fail after
+ * N bytes, and with INTERRUPTED=1 each read is interrupted once. WRITES names the descriptor that
+ * is written so, 1 where it isn't set; FAIL_WRITE=N lets it fail after N bytes, or with
+ * TAKES_NOTHING=1 take nothing.
  */
 #define _GNU_SOURCE
 #include <dlfcn.h>

@@ -1,7 +1,7 @@
 /*
- * Preloaded into a program: each thread is started 50 milliseconds late, and each yield of the processor takes one.
- * REPORT is the number of a descriptor: for each thread that is started a byte is written to it, 'e' if another one has
- * ended by then, else 's'.
+ * Preloaded into a program: each thread is started 50 milliseconds late, and each yield of the
+ * processor takes one. REPORT is the number of a descriptor: for each thread that is started a byte
+ * is written to it, 'e' if another one has ended by then, otherwise 's'.
  */
 #define _GNU_SOURCE
 #include <dlfcn.h>
@@ -45,7 +45,8 @@ static void *run(void *argument)
     return result;
 }
 
-int pthread_create(pthread_t *thread, const pthread_attr_t *attributes, void *(*body)(void *), void *argument)
+int pthread_create(pthread_t *thread, const pthread_attr_t *attributes, void *(*body)(void *),
+                   void *argument)
 {
     struct work *work = malloc(sizeof *work);
     const char *report = getenv("REPORT");

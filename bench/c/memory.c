@@ -1,6 +1,7 @@
-/* Prints the memory that a queue takes for each IRP, file object and pass, over both kinds of list, and what csq_requests.h
- * takes beside it: a row has the list, what for, and the bytes, as malloc hands them out (without its own few for each
- * block). The linker leads all calls for memory here (--wrap). */
+/* Prints the memory that a queue takes for each IRP, file object and pass, over both kinds of list,
+ * and what csq_requests.h takes beside it: a row has the list, what for, and the bytes, as malloc
+ * hands them out (without its own few for each block). The linker leads all calls for memory here
+ * (--wrap). */
 #define _POSIX_C_SOURCE 200809L
 #include "csq_requests.h"
 #include "../../c/tests/wrapped.h"
@@ -86,7 +87,8 @@ int main(void) {
     static const char *const lists[] = { "vector", "chains" };
     for (uint32_t list = CSQ_VECTOR; list <= CSQ_CHAINS; list++) {
         struct bytes one = bytes_of(list, 1, 1, 1), irps = bytes_of(list, CSQ_MOST_IRPS, 1, 1);
-        struct bytes files = bytes_of(list, 1, CSQ_MOST_FILES, 1), passes = bytes_of(list, 1, 1, CSQ_MOST_PASSES);
+        struct bytes files = bytes_of(list, 1, CSQ_MOST_FILES, 1),
+                     passes = bytes_of(list, 1, 1, CSQ_MOST_PASSES);
         uint32_t more_irps = CSQ_MOST_IRPS - 1, more_files = CSQ_MOST_FILES - 1;
         print(lists[list], "queue", 0, one.queue, 1);
         print(lists[list], "queue-irp", one.queue, irps.queue, more_irps);

@@ -13,7 +13,8 @@ static bool is_listed(const struct csq_queue *queue, uint32_t irp) {
 }
 
 /* Whether an IRP is among the matches after another one, or from the first on. */
-static bool stands_after(const struct csq_queue *queue, uint32_t after, uint32_t file, uint32_t irp) {
+static bool stands_after(const struct csq_queue *queue, uint32_t after, uint32_t file,
+                         uint32_t irp) {
     uint32_t next = next_match(queue, after, file);
     while (next != CSQ_ANY && next != irp) {
         next = next_match(queue, next, file);
@@ -22,7 +23,8 @@ static bool stands_after(const struct csq_queue *queue, uint32_t after, uint32_t
 }
 
 /* The verdict of an answer, where this is the first match after the start, or CSQ_ANY. */
-static uint32_t judge(const struct csq_queue *queue, uint32_t first, uint32_t file, uint32_t answer) {
+static uint32_t judge(const struct csq_queue *queue, uint32_t first, uint32_t file,
+                      uint32_t answer) {
     if (answer == first) {
         return CSQ_PEEK_AGREES;
     }
@@ -35,8 +37,8 @@ static uint32_t judge(const struct csq_queue *queue, uint32_t first, uint32_t fi
     return is_listed(queue, answer) ? CSQ_PEEK_NO_MATCH : CSQ_PEEK_NOT_LISTED;
 }
 
-uint32_t csq_judge_peek(const struct csq_queue *queue, uint32_t after, uint32_t file, uint32_t answer,
-                        uint32_t *verdict, uint32_t *skipped) {
+uint32_t csq_judge_peek(const struct csq_queue *queue, uint32_t after, uint32_t file,
+                        uint32_t answer, uint32_t *verdict, uint32_t *skipped) {
     struct csq_irp first = { CSQ_ANY, 0 };
     uint32_t code = csq_peek_next(queue, after, file, &first);
     if (code != CSQ_OK && code != CSQ_NONE) {
@@ -58,8 +60,8 @@ static bool is_among(const uint32_t *irps, size_t count, uint32_t irp) {
     return false;
 }
 
-uint32_t csq_judge_cleanup(const struct csq_queue *queue, uint32_t file, const uint32_t *excused, size_t count,
-                           uint32_t *left) {
+uint32_t csq_judge_cleanup(const struct csq_queue *queue, uint32_t file, const uint32_t *excused,
+                           size_t count, uint32_t *left) {
     uint32_t len, next = CSQ_ANY, code = csq_file_len(queue, file, &len);
     if (code != CSQ_OK) {
         return code;
@@ -71,7 +73,8 @@ uint32_t csq_judge_cleanup(const struct csq_queue *queue, uint32_t file, const u
     return CSQ_OK;
 }
 
-uint32_t csq_judge_remove(struct csq_queue *queue, struct csq_pass *pass, struct csq_irp irp, uint32_t *verdict) {
+uint32_t csq_judge_remove(struct csq_queue *queue, struct csq_pass *pass, struct csq_irp irp,
+                          uint32_t *verdict) {
     bool listed = is_listed(queue, irp.irp);
     uint32_t code = csq_remove(queue, pass, irp);
     if (code == CSQ_OK) {
@@ -92,19 +95,21 @@ static uint32_t use_verdict(const struct csq_queue *queue, uint32_t irp, uint32_
     }
 }
 
-uint32_t csq_judge_complete(struct csq_queue *queue, struct csq_pass *pass, struct csq_irp irp, uint32_t status,
-                            uint32_t *verdict) {
+uint32_t csq_judge_complete(struct csq_queue *queue, struct csq_pass *pass, struct csq_irp irp,
+                            uint32_t status, uint32_t *verdict) {
     if (!queue->at || !pass->at) {
         return CSQ_EMPTY_HANDLE;
     }
     if (pass->queue != queue->number) {
         return CSQ_OTHER_QUEUE;
     }
-    *verdict = use_verdict(queue, irp.irp, status == CSQ_STATUS_CANCELLED ? csq_complete_cancelled(pass, irp)
-                                                                          : csq_complete(pass, irp, status));
+    *verdict = use_verdict(queue, irp.irp,
+                           status == CSQ_STATUS_CANCELLED ? csq_complete_cancelled(pass, irp)
+                                                          : csq_complete(pass, irp, status));
     return CSQ_OK;
 }
 
-uint32_t csq_judge_insert(struct csq_queue *queue, struct csq_pass *pass, struct csq_irp irp, uint32_t *verdict) {
+uint32_t csq_judge_insert(struct csq_queue *queue, struct csq_pass *pass, struct csq_irp irp,
+                          uint32_t *verdict) {
     return csq_judge_complete(queue, pass, irp, CSQ_STATUS_SUCCESS, verdict);
 }

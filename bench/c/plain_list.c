@@ -39,7 +39,8 @@ static uint32_t kind_of(const struct csq_size *size) {
     return size->irps <= CSQ_AUTO_VECTOR_IRPS ? CSQ_VECTOR : CSQ_CHAINS;
 }
 
-bool plain_list_new(struct plain_list *list, const struct csq_size *size, const uint32_t *file_limits) {
+bool plain_list_new(struct plain_list *list, const struct csq_size *size,
+                    const uint32_t *file_limits) {
     memset(list, 0, sizeof *list);
     list->irps = size->irps;
     list->files = size->files;
@@ -50,7 +51,8 @@ bool plain_list_new(struct plain_list *list, const struct csq_size *size, const 
     list->file_lengths = numbers(size->files, 0);
     list->file_limits = numbers(size->files, size->irps);
     list->file_of = numbers(size->irps, NOBODY);
-    bool made = list->used && list->closed && list->file_lengths && list->file_limits && list->file_of;
+    bool made =
+        list->used && list->closed && list->file_lengths && list->file_limits && list->file_of;
     if (!made || !new_kind(list)) {
         plain_list_free(list);
         return false;
@@ -204,7 +206,8 @@ void plain_list_insert(struct plain_list *list, uint32_t irp, uint32_t file, boo
 }
 
 uint32_t plain_list_next(const struct plain_list *list, uint32_t after, uint32_t file) {
-    return list->kind == CSQ_VECTOR ? vector_next(list, after, file) : chains_next(list, after, file);
+    return list->kind == CSQ_VECTOR ? vector_next(list, after, file)
+                                    : chains_next(list, after, file);
 }
 
 void plain_list_remove(struct plain_list *list, uint32_t irp) {

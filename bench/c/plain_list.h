@@ -37,8 +37,10 @@ struct plain_list {
     struct links *file_links;/* the chain of its file object, by IRP */
 };
 
-/* A list of this size; file_limits is null where no file object has a limit of its own. False for want of memory. */
-bool plain_list_new(struct plain_list *list, const struct csq_size *size, const uint32_t *file_limits);
+/* A list of this size; file_limits is null where no file object has a limit of its own. False for
+ * want of memory. */
+bool plain_list_new(struct plain_list *list, const struct csq_size *size,
+                    const uint32_t *file_limits);
 
 void plain_list_free(struct plain_list *list);
 
@@ -51,7 +53,8 @@ uint32_t plain_list_no_room(const struct plain_list *list, uint32_t file);
 /* Lists an IRP whose insert isn't refused. */
 void plain_list_insert(struct plain_list *list, uint32_t irp, uint32_t file, bool front);
 
-/* The first listed IRP of a file object or of any, after a listed one or (NOBODY) from the first on. */
+/* The first listed IRP of a file object or of any, after a listed one or (NOBODY) from the first
+ * on. */
 uint32_t plain_list_next(const struct plain_list *list, uint32_t after, uint32_t file);
 
 /* Takes out a listed IRP. */

@@ -1,6 +1,6 @@
-/* A plain C queue of the same design as the proved one, and of the same header, but unproved: to time that one
- * against, and to run the tests on. Each IRP has three atomic words, each with the life that it is of: the Cancel
- * flag, the cancel routine and the status. */
+/* A plain C queue of the same design as the proved one, and of the same header, but unproved: to
+ * time that one against, and to run the tests on. Each IRP has three atomic words, each with the
+ * life that it is of: the Cancel flag, the cancel routine and the status. */
 #include "plain_list.h"
 
 #include <stdatomic.h>
@@ -28,7 +28,8 @@ struct queue {
     bool closed;
 };
 
-/* How a pass has an IRP, and in which life; of one that it removed, for which file object it was inserted. */
+/* How a pass has an IRP, and in which life; of one that it removed, for which file object it was
+ * inserted. */
 enum { NOT_HERE, OWED, REMOVED, GOT_CANCELLED };
 struct slot {
     uint32_t life;
@@ -57,8 +58,8 @@ static uint64_t unset(uint32_t life) {
     return (uint64_t)life << STATUS_LIFE;
 }
 
-/* What is in the handle of a call that changes something. It is written too, so that the thread sanitizer reports a
- * call without the lock, whatever the call changes behind the handle. */
+/* What is in the handle of a call that changes something. It is written too, so that the thread
+ * sanitizer reports a call without the lock, whatever the call changes behind the handle. */
 static void *taken(void *volatile *handle) {
     void *at = *handle;
     *handle = at;
@@ -74,8 +75,9 @@ static struct pass *pass_in(struct csq_pass *pass) {
 /* ---- A queue's beginning and end ---- */
 
 static bool is_size(const struct csq_size *size) {
-    return 1 <= size->irps && size->irps <= CSQ_MOST_IRPS && 1 <= size->files && size->files <= CSQ_MOST_FILES &&
-           1 <= size->limit && size->limit <= size->irps && 1 <= size->passes && size->passes <= CSQ_MOST_PASSES &&
+    return 1 <= size->irps && size->irps <= CSQ_MOST_IRPS && 1 <= size->files &&
+           size->files <= CSQ_MOST_FILES && 1 <= size->limit && size->limit <= size->irps &&
+           1 <= size->passes && size->passes <= CSQ_MOST_PASSES &&
            size->first_life <= CSQ_LAST_LIFE && size->list <= CSQ_AUTO;
 }
 
@@ -117,7 +119,8 @@ static void begin_lives(struct queue *made, uint32_t first) {
     }
 }
 
-static uint32_t make(struct csq_queue *queue, const struct csq_size *size, const uint32_t *file_limits) {
+static uint32_t make(struct csq_queue *queue, const struct csq_size *size,
+                     const uint32_t *file_limits) {
     struct queue *made = calloc(1, sizeof *made);
     if (!made) {
         return CSQ_NO_MEMORY;
@@ -147,7 +150,8 @@ uint32_t csq_new_queue_with_file_limits(struct csq_queue *queue, const struct cs
     if (queue->at) {
         return CSQ_NOT_EMPTY;
     }
-    return is_size(size) && are_limits(size, file_limits, count) ? make(queue, size, file_limits) : CSQ_BAD_SIZE;
+    return is_size(size) && are_limits(size, file_limits, count) ? make(queue, size, file_limits)
+                                                                 : CSQ_BAD_SIZE;
 }
 
 uint32_t csq_version(void) {
@@ -234,8 +238,10 @@ uint32_t csq_read_left(const struct csq_queue *queue, uint32_t irp, struct csq_l
     if (irp >= at->irps) {
         return CSQ_UNKNOWN_IRP;
     }
-    uint64_t flag = atomic_load(word_of(at->words, irp, FLAG)), status = atomic_load(word_of(at->words, irp, STATUS));
-    *left = (struct csq_left){ at->lives[irp], flag % 2, (status & STATUS_SET) != 0, (uint32_t)status };
+    uint64_t flag = atomic_load(word_of(at->words, irp, FLAG)),
+             status = atomic_load(word_of(at->words, irp, STATUS));
+    *left =
+        (struct csq_left){ at->lives[irp], flag % 2, (status & STATUS_SET) != 0, (uint32_t)status };
     return CSQ_OK;
 }
 
@@ -297,8 +303,9 @@ uint32_t csq_abandon_pass(struct csq_pass *pass) {
     return code;
 }
 
-/* Whether both handles are filled, and the pass is this queue's, which is open then. As in the proved library by the
- * numbers in the handles alone, so that a program that leaves them out fails here too. */
+/* Whether both handles are filled, and the pass is this queue's, which is open then. As in the
+ * proved library by the numbers in the handles alone, so that a program that leaves them out fails
+ * here too. */
 static uint32_t may_call(struct csq_queue *queue, struct csq_pass *pass) {
     if (!queue->at || !pass_in(pass)) {
         return CSQ_EMPTY_HANDLE;
@@ -349,7 +356,9 @@ static uint32_t holds(struct csq_pass *pass, struct csq_irp irp) {
         return code;
     }
     struct slot slot = by->slots[irp.irp];
-    return (slot.has == REMOVED || slot.has == GOT_CANCELLED) && slot.life == irp.life ? CSQ_OK : CSQ_NOT_HELD;
+    return (slot.has == REMOVED || slot.has == GOT_CANCELLED) && slot.life == irp.life
+               ? CSQ_OK
+               : CSQ_NOT_HELD;
 }
 
 /* Whether it got the IRP by a removal. */
@@ -380,8 +389,8 @@ static bool disarm(struct queue *at, uint32_t irp) {
 }
 
 /* Lists an IRP and sets its routine. If it was cancelled before, the pass holds it. */
-static uint32_t list_irp(struct queue *at, struct pass *by, uint32_t irp, uint32_t file, uint32_t front,
-                         struct csq_irp *context) {
+static uint32_t list_irp(struct queue *at, struct pass *by, uint32_t irp, uint32_t file,
+                         uint32_t front, struct csq_irp *context) {
     uint32_t life = at->lives[irp], code = CSQ_OK;
     plain_list_insert(&at->list, irp, file, front != 0);
     atomic_exchange(word_of(at->words, irp, ROUTINE), clear(life) + 1);
@@ -394,8 +403,8 @@ static uint32_t list_irp(struct queue *at, struct pass *by, uint32_t irp, uint32
     return code;
 }
 
-uint32_t csq_insert(struct csq_queue *queue, struct csq_pass *pass, uint32_t irp, uint32_t file, uint32_t front,
-                    struct csq_irp *context) {
+uint32_t csq_insert(struct csq_queue *queue, struct csq_pass *pass, uint32_t irp, uint32_t file,
+                    uint32_t front, struct csq_irp *context) {
     struct queue *at = queue_in(queue);
     uint32_t code = may_call(queue, pass);
     if (code == CSQ_OK) {
@@ -404,8 +413,8 @@ uint32_t csq_insert(struct csq_queue *queue, struct csq_pass *pass, uint32_t irp
     return code == CSQ_OK ? list_irp(at, pass->at, irp, file, front, context) : code;
 }
 
-uint32_t csq_put_back(struct csq_queue *queue, struct csq_pass *pass, struct csq_irp irp, uint32_t front,
-                      struct csq_irp *context) {
+uint32_t csq_put_back(struct csq_queue *queue, struct csq_pass *pass, struct csq_irp irp,
+                      uint32_t front, struct csq_irp *context) {
     struct queue *at = queue_in(queue);
     struct pass *by = pass_in(pass);
     uint32_t file = NOBODY, code = may_call(queue, pass);
@@ -429,7 +438,8 @@ static void take_removed(struct queue *at, struct pass *by, uint32_t irp) {
     hold(by, irp, (struct slot){ at->lives[irp], REMOVED, file });
 }
 
-uint32_t csq_remove_next(struct csq_queue *queue, struct csq_pass *pass, uint32_t file, struct csq_irp *irp) {
+uint32_t csq_remove_next(struct csq_queue *queue, struct csq_pass *pass, uint32_t file,
+                         struct csq_irp *irp) {
     struct queue *at = queue_in(queue);
     uint32_t code = may_call(queue, pass);
     if (code != CSQ_OK) {
@@ -453,7 +463,8 @@ uint32_t csq_remove(struct csq_queue *queue, struct csq_pass *pass, struct csq_i
     if (code != CSQ_OK) {
         return code;
     }
-    if (!plain_list_has(&at->list, irp.irp) || at->lives[irp.irp] != irp.life || !disarm(at, irp.irp)) {
+    if (!plain_list_has(&at->list, irp.irp) || at->lives[irp.irp] != irp.life ||
+        !disarm(at, irp.irp)) {
         return CSQ_NONE;
     }
     take_removed(at, pass->at, irp.irp);
@@ -497,7 +508,8 @@ uint32_t csq_close_file(struct csq_queue *queue, struct csq_pass *pass, uint32_t
     return CSQ_OK;
 }
 
-/* Begins the next life of an IRP in its words. The flag comes last: with it the next life begins. */
+/* Begins the next life of an IRP in its words. The flag comes last: with it the next life
+ * begins. */
 static void renew(struct queue *at, uint32_t irp, uint32_t next) {
     atomic_exchange(word_of(at->words, irp, STATUS), unset(next));
     atomic_exchange(word_of(at->words, irp, ROUTINE), clear(next));
@@ -506,7 +518,8 @@ static void renew(struct queue *at, uint32_t irp, uint32_t next) {
     at->lives[irp] = next;
 }
 
-uint32_t csq_reuse(struct csq_queue *queue, struct csq_pass *pass, struct csq_irp irp, uint32_t *life) {
+uint32_t csq_reuse(struct csq_queue *queue, struct csq_pass *pass, struct csq_irp irp,
+                   uint32_t *life) {
     struct queue *at = queue_in(queue);
     uint32_t code = may_call(queue, pass);
     if (code != CSQ_OK) {
@@ -531,7 +544,8 @@ uint32_t csq_reuse(struct csq_queue *queue, struct csq_pass *pass, struct csq_ir
 
 /* ---- Looks at an open queue ---- */
 
-uint32_t csq_peek_next(const struct csq_queue *queue, uint32_t after, uint32_t file, struct csq_irp *irp) {
+uint32_t csq_peek_next(const struct csq_queue *queue, uint32_t after, uint32_t file,
+                       struct csq_irp *irp) {
     const struct queue *at = queue->at;
     uint32_t next = NOBODY, code = open_queue(at);
     if (code == CSQ_OK) {
@@ -587,7 +601,8 @@ uint32_t csq_mark_cancel(struct csq_pass *pass, struct csq_irp irp, uint32_t *fo
 }
 
 static void set_status(struct pass *by, uint32_t irp, uint32_t status) {
-    atomic_exchange(word_of(by->words, irp, STATUS), unset(by->slots[irp].life) + STATUS_SET + status);
+    atomic_exchange(word_of(by->words, irp, STATUS),
+                    unset(by->slots[irp].life) + STATUS_SET + status);
     let_go(by, irp);
 }
 

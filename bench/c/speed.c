@@ -1,9 +1,11 @@
-/* Times calls of a queue: speed KIND LOCK THREADS QUEUES. KIND is remove (an insert, a removal and a completion) or
- * cancel (an insert, a cancel and a completion), LOCK is spin or mutex. Each queue has 1,024 IRPs, which the threads
- * share. Prints the nanoseconds for an IRP in the median queue; the making of queues and passes isn't timed.
+/* Times calls of a queue: speed KIND LOCK THREADS QUEUES. KIND is remove (an insert, a removal and
+ * a completion) or cancel (an insert, a cancel and a completion), LOCK is spin or mutex. Each queue
+ * has 1,024 IRPs, which the threads share. Prints the nanoseconds for an IRP in the median queue;
+ * the making of queues and passes isn't timed.
  *
- * speed sizes TURNS: what each call takes over each kind of list, by how many IRPs are listed; in one thread, without a
- * lock. A row has the list, how many are listed, the call, and the nanoseconds, the median of a turn, in the best turn. */
+ * speed sizes TURNS: what each call takes over each kind of list, by how many IRPs are listed; in
+ * one thread, without a lock. A row has the list, how many are listed, the call, and the
+ * nanoseconds, the median of a turn, in the best turn. */
 #include "csq.h"
 
 #include <pthread.h>
@@ -166,7 +168,8 @@ static int compare(const void *one, const void *other) {
 
 /* ---- The cost by size ---- */
 
-/* A turn of a row has so many samples, or fewer where they take so many nanoseconds. A sample is of up to so many calls. */
+/* A turn of a row has at most MOST_SAMPLES samples, or fewer where they take most_time nanoseconds.
+ * A sample is of up to MOST_CALLS calls. */
 enum { MOST_SAMPLES = 400, MOST_CALLS = 64 };
 static const double most_time = 2e7;
 
@@ -214,8 +217,8 @@ static void cancel_victims(void) {
     }
 }
 
-/* Some of the listed, no two the same: those that were listed last, which are in the caches; or any, far from each other,
- * which aren't where there are many. */
+/* Some of the listed, no two the same: those that were listed last, which are in the caches; or
+ * any, far from each other, which aren't where there are many. */
 static void pick_victims(int late) {
     uint32_t first = late ? 0 : pick(listed);
     for (uint32_t at = 0; at < calls; at++) {
@@ -291,9 +294,14 @@ static const struct way ways[] = { { "next", remove_next, 1 },
                                    { "remove", remove_victims, 0 },
                                    { "cancel", cancel_victims, 0 } };
 static const char *const others[] = { "insert", "new", "take-pass", "give-back", "close", "free" };
-enum { WAYS = sizeof ways / sizeof *ways, OTHERS = sizeof others / sizeof *others, ROWS = WAYS + OTHERS };
+enum {
+    WAYS = sizeof ways / sizeof *ways,
+    OTHERS = sizeof others / sizeof *others,
+    ROWS = WAYS + OTHERS
+};
 
-/* All IRPs of a queue of this size are listed, and then a few of them end and are listed again, in each way. */
+/* All IRPs of a queue of this size are listed, and then a few of them end and are listed again, in
+ * each way. */
 static void time_size(double *rows) {
     double *other = rows + WAYS, ignored;
     listed = size.irps;
@@ -329,8 +337,9 @@ static void time_sizes(int turns) {
                 }
             }
             for (int row = 0; row < ROWS; row++) {
-                printf("%s %u %s %.1f\n", list == CSQ_VECTOR ? "vector" : "chains", (unsigned)sizes[at],
-                       row < WAYS ? ways[row].name : others[row - WAYS], best[row]);
+                printf("%s %u %s %.1f\n", list == CSQ_VECTOR ? "vector" : "chains",
+                       (unsigned)sizes[at], row < WAYS ? ways[row].name : others[row - WAYS],
+                       best[row]);
             }
         }
     }

@@ -1,7 +1,8 @@
-//! Names the C library to the linker: the archives that `CSQ_LIBRARY` names, in the linker's order, with colons between
-//! them (a relative path is of the folder from which the build was started; a colon that isn't behind `.a` is part of a
-//! path); else the library that `pkg-config` finds; else, with the feature `plain`, the plain C queue, which the C
-//! compiler builds from the repository (`bench/c`).
+//! Names the C library to the linker: the archives that `CSQ_LIBRARY` names, in the linker's order,
+//! with colons between them (a relative path is of the folder from which the build was started; a
+//! colon that doesn't follow `.a` is part of a path); otherwise the library that `pkg-config`
+//! finds; otherwise, with the feature `plain`, the plain C queue, which the C compiler builds from
+//! the repository (`bench/c`).
 use std::env;
 use std::ffi::OsStr;
 use std::path::{Path, PathBuf};
@@ -14,8 +15,9 @@ struct Archive {
     name: String,
 }
 
-/// The folder from which the build was started. Cargo runs this program in the package's folder, and stays where it was
-/// started itself; `PWD` has to name that folder too, since by it Cargo sees that a build is started elsewhere.
+/// The folder from which the build was started. Cargo runs this program in the package's folder,
+/// and stays where it was started itself; `PWD` has to name that folder too, since by it Cargo sees
+/// that a build is started elsewhere.
 #[cfg(unix)]
 fn started_in() -> Option<PathBuf> {
     let named = PathBuf::from(env::var_os("PWD")?).canonicalize();
@@ -40,7 +42,10 @@ fn name_of(path: &Path) -> Option<&str> {
 fn archive_of(given: &Path) -> Result<Archive, String> {
     let shown = given.display();
     let name = name_of(given).ok_or_else(|| {
-        format!("\"{shown}\" is not named as an archive is, lib*.a; between two archives stands a colon, behind the first one's .a")
+        format!(
+            "\"{shown}\" is not named as an archive is, lib*.a; between two archives stands a \
+             colon, behind the first one's .a"
+        )
     })?;
     let path = if given.is_absolute() {
         given.to_path_buf()
@@ -67,7 +72,8 @@ fn archive_of(given: &Path) -> Result<Archive, String> {
     })
 }
 
-/// The paths of archives with colons between them. A colon that isn't behind `.a` is part of a path.
+/// The paths of archives with colons between them. A colon that doesn't follow `.a` is part of a
+/// path.
 fn paths_of(archives: &str) -> Vec<String> {
     let mut paths: Vec<_> = archives.split(".a:").map(str::to_string).collect();
     let last = paths.len() - 1;
@@ -98,7 +104,8 @@ fn program(variable: &str, name: &str) -> Command {
     Command::new(env::var_os(variable).unwrap_or_else(|| name.into()))
 }
 
-/// Names the installed library to Cargo, if pkg-config finds it on this machine, for which it is built too.
+/// Names the installed library to Cargo, if pkg-config finds it on this machine, for which it is
+/// built too.
 fn link_installed() -> bool {
     println!("cargo:rerun-if-env-changed=PKG_CONFIG_PATH");
     if env::var_os("HOST") != env::var_os("TARGET") {
@@ -161,7 +168,10 @@ fn link_plain() -> Result<(), String> {
 /// Without the library a build is for its checks alone.
 fn warn() {
     println!("cargo:warning=there is no C library: checked without it, so programs won't link");
-    println!("cargo:warning=set CSQ_LIBRARY to its archives, install it (c/install), or turn the feature plain on");
+    println!(
+        "cargo:warning=set CSQ_LIBRARY to its archives, install it (c/install), or turn the \
+         feature plain on"
+    );
 }
 
 fn main() -> ExitCode {

@@ -1,5 +1,6 @@
-/* A driver in small: two dispatch routines queue requests, a worker completes them, a caller cancels some, a file
- * object is cleaned up, and the queue is closed:   cc -std=c11 -Iinclude c/examples/driver.c LIBRARY.. -pthread */
+/* A driver in small: two dispatch routines queue requests, a worker completes them, a caller
+ * cancels some, a file object is cleaned up, and the queue is closed:
+ * cc -std=c11 -Iinclude c/examples/driver.c LIBRARY.. -pthread */
 #include "csq.h"
 
 #include <pthread.h>
@@ -27,7 +28,8 @@ static uint32_t queue_one(struct csq_pass *pass, uint32_t irp, uint32_t file) {
     lock(&mutex);
     uint32_t code = csq_insert(&queue, pass, irp, file, 0, &context);
     unlock(&mutex);
-    return code == CSQ_CANCELLED ? csq_complete_cancelled(pass, context) : code; /* where the caller was faster */
+    /* Cancelled: where the caller was faster. */
+    return code == CSQ_CANCELLED ? csq_complete_cancelled(pass, context) : code;
 }
 static void dispatch(struct csq_pass *pass, uint32_t file) {
     for (uint32_t irp = file * SHARE; irp < (file + 1) * SHARE; irp++) {
@@ -37,14 +39,16 @@ static void dispatch(struct csq_pass *pass, uint32_t file) {
 static void *dispatch_reads(void *pass) { return dispatch(pass, READS), NULL; }
 static void *dispatch_writes(void *pass) { return dispatch(pass, WRITES), NULL; }
 
-/* The worker takes what is queued for reading (IoCsqRemoveNextIrp), and completes it: nobody else can any more. */
+/* The worker takes what is queued for reading (IoCsqRemoveNextIrp), and completes it: nobody else
+ * can any more. */
 static void *work(void *pass) {
     struct csq_irp irp;
     for (int turn = 0; turn < SHARE; turn++) {
         lock(&mutex);
         uint32_t code = csq_remove_next(&queue, pass, READS, &irp);
         unlock(&mutex);
-        must(code == CSQ_NONE || csq_complete(pass, irp, CSQ_STATUS_SUCCESS) == CSQ_OK, "not completed");
+        must(code == CSQ_NONE || csq_complete(pass, irp, CSQ_STATUS_SUCCESS) == CSQ_OK,
+             "not completed");
     }
     return NULL;
 }
@@ -54,13 +58,16 @@ static void *cancel(void *pass) {
     for (uint32_t file = READS; file < FILES; file++) {
         struct csq_irp irp = { .irp = file * SHARE + 3, .life = 0 };
         uint32_t completed; /* 0 where the dispatch routine or the worker completes it */
-        must(csq_cancel(&queue, pass, irp, &queue_lock, NULL, &completed) == CSQ_OK, "no such request");
+        must(csq_cancel(&queue, pass, irp, &queue_lock, NULL, &completed) == CSQ_OK,
+             "no such request");
     }
     return NULL;
 }
 
 int main(void) {
-    const struct csq_size size = { .irps = IRPS, .files = FILES, .limit = IRPS, .passes = THREADS, .list = CSQ_VECTOR };
+    const struct csq_size size = {
+        .irps = IRPS, .files = FILES, .limit = IRPS, .passes = THREADS, .list = CSQ_VECTOR
+    };
     void *(*const routines[THREADS])(void *) = { dispatch_reads, dispatch_writes, work, cancel };
     struct csq_pass passes[THREADS] = { CSQ_EMPTY }; /* one for each thread */
     pthread_t threads[THREADS];
@@ -76,10 +83,13 @@ int main(void) {
         must(pthread_join(threads[at], NULL) == 0, "not joined");
     }
     work(&passes[0]);
-    /* The last handle to a file object goes: what is queued for it is cancelled (IRP_MJ_CLEANUP). */
-    must(csq_cleanup(&queue, &passes[0], WRITES, &queue_lock, NULL, &cleaned) == CSQ_OK, "no such file object");
+    /* The last handle to a file object goes: what is queued for it is cancelled
+     * (IRP_MJ_CLEANUP). */
+    must(csq_cleanup(&queue, &passes[0], WRITES, &queue_lock, NULL, &cleaned) == CSQ_OK,
+         "no such file object");
     must(queue_one(&passes[0], LATE, WRITES) == CSQ_FILE_CLOSED, "not refused");
-    must(queue_one(&passes[0], LATE, READS) == CSQ_OK, "refused"); /* left, to show what a closed queue reports */
+    must(queue_one(&passes[0], LATE, READS) == CSQ_OK, "refused"); /* left, to show what a closed
+                                                                    * queue reports */
     for (int at = 0; at < THREADS; at++) {
         must(csq_give_back(&queue, &passes[at]) == CSQ_OK, "a request was not completed");
     }

@@ -47,7 +47,8 @@ void load_needs_descriptors(unsigned count) {
     struct rlimit limit;
     must(getrlimit(RLIMIT_NOFILE, &limit) == 0, "getrlimit");
     if (limit.rlim_max < count) {
-        fprintf(stderr, "%u descriptors are needed, and %lu allowed (ulimit -Hn)\n", count, (unsigned long)limit.rlim_max);
+        fprintf(stderr, "%u descriptors are needed, and %lu allowed (ulimit -Hn)\n", count,
+                (unsigned long)limit.rlim_max);
         exit(LOAD_NO_DESCRIPTORS);
     }
     limit.rlim_cur = limit.rlim_cur < count ? count : limit.rlim_cur;
@@ -58,7 +59,8 @@ void load_needs_descriptors(unsigned count) {
 int load_listen(void) {
     int fd = socket(AF_UNIX, SOCK_SEQPACKET, 0);
     address.sun_family = AF_UNIX;
-    must(fd >= 0 && bind(fd, (struct sockaddr *)&address, sizeof address.sun_family) == 0, "not bound");
+    must(fd >= 0 && bind(fd, (struct sockaddr *)&address, sizeof address.sun_family) == 0,
+         "not bound");
     length = sizeof address;
     must(getsockname(fd, (struct sockaddr *)&address, &length) == 0, "no name");
     must(listen(fd, 1024) == 0 && fcntl(fd, F_SETFL, O_NONBLOCK) == 0, "not listening");
@@ -119,7 +121,8 @@ static void *run_client(void *of) {
 void load_run(struct load *load) {
     struct client clients[CLIENTS];
     int *fds = calloc(load->connections, sizeof *fds);
-    must(fds && load->jobs <= LOAD_MOST_JOBS && pthread_barrier_init(&barrier, NULL, CLIENTS) == 0, "no clients");
+    must(fds && load->jobs <= LOAD_MOST_JOBS && pthread_barrier_init(&barrier, NULL, CLIENTS) == 0,
+         "no clients");
     for (unsigned at = 0; at < CLIENTS; at++) {
         struct client client = { .load = load, .first = at, .fds = fds };
         clients[at] = client;

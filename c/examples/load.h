@@ -1,5 +1,5 @@
-/* The load of server.c: clients that connect, send requests, read the answers and hang up, some of them early; and what
- * the two use. */
+/* The load of server.c: clients that connect, send requests, read the answers and hang up, some of
+ * them early; and what the two use. */
 #ifndef LOAD_H
 #define LOAD_H
 
@@ -9,7 +9,8 @@
 
 #include <stdint.h>
 
-/* The most requests of a connection, and the exit status if the system allows too few descriptors. */
+/* The most requests of a connection, and the exit status if the system allows too few
+ * descriptors. */
 enum { LOAD_MOST_JOBS = 64, LOAD_NO_DESCRIPTORS = 77 };
 
 /* What the server sends for each request, which is a number below `jobs`. */
@@ -22,8 +23,10 @@ struct load {
     unsigned connections;        /* at once */
     unsigned jobs;               /* of each */
     unsigned rounds;             /* so often each connects */
-    void (*all_are_open)(void);  /* called once: all have connected and sent, and wait until this returns */
-    unsigned long answers, hang_ups; /* how many were read, and how many connections hung up before that */
+    void (*all_are_open)(void);  /* called once: all have connected and sent, and wait until this
+                                  * returns */
+    unsigned long answers, hang_ups; /* how many were read, and how many connections hung up before
+                                      * that */
 };
 
 /* Raises the number of descriptors that this program may have, or ends it. */

@@ -1,11 +1,15 @@
-/* A server over csq_requests.h. One thread with epoll reads requests from connections that come and go, workers serve
- * them, and a timer cancels those that wait too long. A request that finds its device busy is put back. Once a connection
- * has gone its requests are drained, and the next one has its number. Clients in the same program (load.c) keep the
- * server busy, and hang up early now and then. In the end every request is accounted for.
+/* A server over csq_requests.h. One thread with epoll reads requests from connections that come and
+ * go, workers serve them, and a timer cancels those that wait too long. A request that finds its
+ * device busy is put back. Once a connection has gone its requests are drained, and the next one
+ * has its number. Clients in the same program (load.c) keep the server busy, and hang up early now
+ * and then. In the end every request is accounted for.
  *
  *     cc -std=c99 -Iinclude c/examples/server.c c/examples/load.c LIBRARY.. -pthread -o server
- *     cc -std=c99 -IPREFIX/include/keuvatsi server.c load.c $(pkg-config --libs csq) -pthread -o server    (installed)
- *     ./server [CONNECTIONS at once [REQUESTS of each [ROUNDS [WORKERS [DEADLINE in milliseconds]]]]] */
+ *     cc -std=c99 -IPREFIX/include/keuvatsi server.c load.c $(pkg-config --libs csq) -pthread \
+ *         -o server    (installed)
+ *     ./server [CONNECTIONS at once [REQUESTS of each [ROUNDS [WORKERS
+ *         [DEADLINE in milliseconds]]]]]
+ */
 #define _POSIX_C_SOURCE 200809L
 #include "csq_requests.h"
 #include "load.h"
@@ -31,7 +35,8 @@ static struct csq_requests *requests;
 static struct connection *table, *free_connections, *leaving; /* of the thread with epoll */
 static int listener, poller, device_busy;
 static pthread_t reader, timer, workers[MOST_WORKERS];
-static struct { struct csq_irp name; long due; } deadlines[DEADLINES]; /* a ring: the first is due first */
+/* A ring: the first is due first. */
+static struct { struct csq_irp name; long due; } deadlines[DEADLINES];
 static unsigned long deadlines_added, timer_ends;
 /* What became of the requests. */
 static unsigned long submitted, served, cancelled, expired, went_back, without_number;
@@ -54,7 +59,8 @@ static void before_completion(void *context, struct csq_irp name, void *value) {
 }
 
 /* ---- Workers ---- */
-/* Answers a request before it completes it: once nothing is under way, nothing is answered any more. */
+/* Answers a request before it completes it: once nothing is under way, nothing is answered any
+ * more. */
 static void finish(const struct csq_request *request, uint32_t status) {
     answer(request->value, status);
     must(csq_requests_complete(requests, request, status) == CSQ_OK, "not completed");
@@ -88,10 +94,12 @@ static void *work(void *unused) {
 /* ---- Deadlines ---- */
 static void *cancel_what_is_due(void *unused) {
     for (unsigned long at = 0; !NOW(timer_ends); rest()) {
-        for (long now = milliseconds(); at < NOW(deadlines_added) && deadlines[at % DEADLINES].due <= now; at++) {
+        for (long now = milliseconds();
+             at < NOW(deadlines_added) && deadlines[at % DEADLINES].due <= now; at++) {
             void *value; /* which is answered by then */
             uint32_t code = csq_requests_cancel(requests, deadlines[at % DEADLINES].name, &value);
-            /* CSQ_NONE: a worker has it, and looks at the cancel. CSQ_STALE: it was served in time. */
+            /* CSQ_NONE: a worker has it, and looks at the cancel. CSQ_STALE: it was served in
+             * time. */
             ADD(expired, code != CSQ_STALE);
         }
     }
@@ -144,8 +152,9 @@ static void read_from(struct connection *connection) {
     }
 }
 
-/* The number of a connection is free once nothing of it is listed or taken. This waits for no worker: what one has still
- * is looked for again in the next turn. Returns how many connections have gone. */
+/* The number of a connection is free once nothing of it is listed or taken. This waits for no
+ * worker: what one has still is looked for again in the next turn. Returns how many connections
+ * have gone. */
 static unsigned let_go(void) {
     unsigned gone = 0;
     for (struct connection **at = &leaving, *connection; (connection = *at) != NULL;) {
@@ -182,13 +191,15 @@ static void start(pthread_t *thread, void *(*routine)(void *)) {
     must(pthread_create(thread, NULL, routine, NULL) == 0, "no thread");
 }
 
-/* All connections of the first round are open, and have sent their requests. The workers begin once all are under way. */
+/* All connections of the first round are open, and have sent their requests. The workers begin once
+ * all are under way. */
 static void all_are_open(void) {
     uint32_t listed = 0, under_way = 0;
     for (; under_way + NOW(without_number) < options[CONNECTIONS] * options[JOBS]; rest()) {
         must(csq_requests_len(requests, CSQ_ANY, &listed, &under_way) == CSQ_OK, "no length");
     }
-    printf("%u connections, %lu requests under way at once\n", options[CONNECTIONS], (unsigned long)under_way);
+    printf("%u connections, %lu requests under way at once\n", options[CONNECTIONS],
+           (unsigned long)under_way);
     for (unsigned at = 0; at < options[WORKERS]; at++) {
         start(&workers[at], work);
     }
@@ -204,8 +215,12 @@ static void read_options(int count, char **words) {
 }
 
 static void begin(void) {
-    const struct csq_size size = { .irps = CSQ_MOST_IRPS, .files = options[CONNECTIONS], .limit = CSQ_MOST_IRPS,
-                                   .passes = 1, .first_life = 0, .list = CSQ_AUTO };
+    const struct csq_size size = { .irps = CSQ_MOST_IRPS,
+                                   .files = options[CONNECTIONS],
+                                   .limit = CSQ_MOST_IRPS,
+                                   .passes = 1,
+                                   .first_life = 0,
+                                   .list = CSQ_AUTO };
     const struct csq_requests_events events = { before_completion, NULL, NULL };
     table = calloc(options[CONNECTIONS], sizeof *table);
     must(table && csq_requests_new(&requests, &size, NULL, &events) == CSQ_OK, "no queue");
@@ -238,10 +253,13 @@ int main(int count, char **words) {
     begin();
     load_run(&load);
     end();
-    printf("%lu requests: %lu served, %lu cancelled; %lu were due; %lu put back; %lu found no number; %ld ms\n", submitted,
-           served, cancelled, expired, went_back, without_number, milliseconds() - began);
+    printf("%lu requests: %lu served, %lu cancelled; %lu were due; %lu put back; %lu found no "
+           "number; %ld ms\n",
+           submitted, served, cancelled, expired, went_back, without_number,
+           milliseconds() - began);
     /* Of a connection that hung up the server may have read less than was sent. */
-    must(load.answers <= submitted && submitted <= load.answers + load.hang_ups * load.jobs, "a request was not read");
+    must(load.answers <= submitted && submitted <= load.answers + load.hang_ups * load.jobs,
+         "a request was not read");
     must(served + cancelled == submitted && without_number == 0, "a request is not accounted for");
     return 0;
 }

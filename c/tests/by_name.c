@@ -1,5 +1,6 @@
-/* What a program that binds by name finds in a shared library: by_name LIBRARY BUILD NAME.. ends with 0 if each name is a
- * symbol of it, csq_build returns that text, and the calls that csq.h writes do their work. */
+/* What a program that binds by name finds in a shared library: by_name LIBRARY BUILD NAME.. ends
+ * with 0 if each name is a symbol of it, csq_build returns that text, and the calls that csq.h
+ * writes do their work. */
 #include "csq.h"
 
 #include <dlfcn.h>
@@ -27,15 +28,16 @@ static int does_its_work(void) {
     find("csq_new", &make, sizeof make);
     find("csq_free", &end, sizeof end);
     find("csq_name", &name, sizeof name);
-    return make(&queue, &size) == CSQ_OK && queue.number != 0 && end(&queue) == CSQ_OK && queue.number == 0 &&
-           strcmp(name(CSQ_FULL), "CSQ_FULL") == 0;
+    return make(&queue, &size) == CSQ_OK && queue.number != 0 && end(&queue) == CSQ_OK &&
+           queue.number == 0 && strcmp(name(CSQ_FULL), "CSQ_FULL") == 0;
 }
 
 int main(int count, char **words) {
     const char *(*build)(void);
     void (*call)(void);
     if (count < 4 || !(library = dlopen(words[1], RTLD_NOW))) {
-        printf("not opened: %s\n", count < 4 ? "name a library, its build and its calls" : dlerror());
+        printf("not opened: %s\n",
+               count < 4 ? "name a library, its build and its calls" : dlerror());
         return 1;
     }
     for (int at = 3; at < count; at++) {

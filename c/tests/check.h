@@ -23,7 +23,8 @@ static inline void check_that(int holds, const char *what, const char *file, int
     }
 }
 
-static inline void check_number(unsigned long got, unsigned long want, const char *what, const char *file, int line) {
+static inline void check_number(unsigned long got, unsigned long want, const char *what,
+                                const char *file, int line) {
     if (got != want && !check_failed) {
         printf("FAILED %s: %s:%d: %s is %lu, not %lu\n", check_test, file, line, what, got, want);
         check_failed = 1;
@@ -130,12 +131,15 @@ static inline uint32_t take(struct device *device, int pass, uint32_t file) {
     return code == CSQ_OK ? irp.irp : CSQ_ANY;
 }
 
-/* Puts an IRP back, and answers the code. An answer that stores the IRP stores it by the name that it has. */
-static inline uint32_t put_back(struct device *device, int pass, struct csq_irp irp, uint32_t front) {
+/* Puts an IRP back, and answers the code. An answer that stores the IRP stores it by the name that
+ * it has. */
+static inline uint32_t put_back(struct device *device, int pass, struct csq_irp irp,
+                                uint32_t front) {
     struct csq_irp context = { UNWRITTEN, UNWRITTEN };
     uint32_t code = csq_put_back(&device->queue, &device->passes[pass], irp, front, &context);
     int stored = code == CSQ_OK || code == CSQ_CANCELLED;
-    CHECK(context.irp == (stored ? irp.irp : UNWRITTEN) && context.life == (stored ? irp.life : UNWRITTEN));
+    CHECK(context.irp == (stored ? irp.irp : UNWRITTEN) &&
+          context.life == (stored ? irp.life : UNWRITTEN));
     return code;
 }
 

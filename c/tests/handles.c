@@ -14,47 +14,77 @@ static const struct csq_size small = { 2, 1, 2, 2, 0, CSQ_CHAINS };
 static const uint32_t one_limit[] = { 1 }, excused[] = { 9 };
 
 static uint32_t new_of(struct arguments a) { return csq_new(a.queue, &small); }
-static uint32_t limited_of(struct arguments a) { return csq_new_with_file_limits(a.queue, &small, one_limit, 1); }
+static uint32_t limited_of(struct arguments a) {
+    return csq_new_with_file_limits(a.queue, &small, one_limit, 1);
+}
 static uint32_t len_of(struct arguments a) { return csq_len(a.queue, &first); }
 static uint32_t file_len_of(struct arguments a) { return csq_file_len(a.queue, 9, &first); }
 static uint32_t peek_of(struct arguments a) { return csq_peek_next(a.queue, 9, 9, &named); }
-static uint32_t judge_of(struct arguments a) { return csq_judge_peek(a.queue, 9, 9, 9, &first, &second); }
-static uint32_t left_by(struct arguments a) { return csq_judge_cleanup(a.queue, 9, excused, 1, &first); }
+static uint32_t judge_of(struct arguments a) {
+    return csq_judge_peek(a.queue, 9, 9, 9, &first, &second);
+}
+static uint32_t left_by(struct arguments a) {
+    return csq_judge_cleanup(a.queue, 9, excused, 1, &first);
+}
 static uint32_t out_of(struct arguments a) { return csq_count_passes_out(a.queue, &first); }
 static uint32_t close_of(struct arguments a) { return csq_close(a.queue); }
 static uint32_t listed_of(struct arguments a) { return csq_read_listed(a.queue, CSQ_ANY, &first); }
 static uint32_t left_of(struct arguments a) { return csq_read_left(a.queue, 0, &left); }
 static uint32_t pass_of(struct arguments a) { return csq_take_pass(a.queue, a.pass); }
 static uint32_t back_of(struct arguments a) { return csq_give_back(a.queue, a.pass); }
-static uint32_t insert_of(struct arguments a) { return csq_insert(a.queue, a.pass, 9, 9, 0, &named); }
-static uint32_t put_back_of(struct arguments a) { return csq_put_back(a.queue, a.pass, irp_in(9, 0), 0, &named); }
-static uint32_t next_of(struct arguments a) { return csq_remove_next(a.queue, a.pass, CSQ_ANY, &named); }
+static uint32_t insert_of(struct arguments a) {
+    return csq_insert(a.queue, a.pass, 9, 9, 0, &named);
+}
+static uint32_t put_back_of(struct arguments a) {
+    return csq_put_back(a.queue, a.pass, irp_in(9, 0), 0, &named);
+}
+static uint32_t next_of(struct arguments a) {
+    return csq_remove_next(a.queue, a.pass, CSQ_ANY, &named);
+}
 static uint32_t remove_of(struct arguments a) { return csq_remove(a.queue, a.pass, named); }
-static uint32_t routine_of(struct arguments a) { return csq_cancel_routine(a.queue, a.pass, irp_in(9, 0)); }
-static uint32_t owed_of(struct arguments a) { return csq_cancel_owed(a.queue, a.pass, irp_in(9, 0)); }
+static uint32_t routine_of(struct arguments a) {
+    return csq_cancel_routine(a.queue, a.pass, irp_in(9, 0));
+}
+static uint32_t owed_of(struct arguments a) {
+    return csq_cancel_owed(a.queue, a.pass, irp_in(9, 0));
+}
 static uint32_t file_of(struct arguments a) { return csq_close_file(a.queue, a.pass, 9); }
-static uint32_t reuse_of(struct arguments a) { return csq_reuse(a.queue, a.pass, irp_in(9, 0), &first); }
-static uint32_t judged_removal_of(struct arguments a) { return csq_judge_remove(a.queue, a.pass, named, &first); }
-static uint32_t judged_end_of(struct arguments a) { return csq_judge_complete(a.queue, a.pass, named, 0, &first); }
-static uint32_t judged_insert_of(struct arguments a) { return csq_judge_insert(a.queue, a.pass, named, &first); }
+static uint32_t reuse_of(struct arguments a) {
+    return csq_reuse(a.queue, a.pass, irp_in(9, 0), &first);
+}
+static uint32_t judged_removal_of(struct arguments a) {
+    return csq_judge_remove(a.queue, a.pass, named, &first);
+}
+static uint32_t judged_end_of(struct arguments a) {
+    return csq_judge_complete(a.queue, a.pass, named, 0, &first);
+}
+static uint32_t judged_insert_of(struct arguments a) {
+    return csq_judge_insert(a.queue, a.pass, named, &first);
+}
 static uint32_t drop_of(struct arguments a) { return csq_abandon_pass(a.pass); }
 static uint32_t holding_of(struct arguments a) { return csq_count_held(a.pass, &first, &second); }
 static uint32_t mark_of(struct arguments a) { return csq_mark_cancel(a.pass, named, &first); }
-static uint32_t complete_of(struct arguments a) { return csq_complete(a.pass, irp_in(9, 0), CSQ_STATUS_PENDING); }
-static uint32_t cancelled_of(struct arguments a) { return csq_complete_cancelled(a.pass, irp_in(9, 0)); }
+static uint32_t complete_of(struct arguments a) {
+    return csq_complete(a.pass, irp_in(9, 0), CSQ_STATUS_PENDING);
+}
+static uint32_t cancelled_of(struct arguments a) {
+    return csq_complete_cancelled(a.pass, irp_in(9, 0));
+}
 static uint32_t flag_of(struct arguments a) { return csq_read_cancel(a.pass, 9, &first, &second); }
 static uint32_t read_of(struct arguments a) { return csq_read_status(a.pass, 9, &first, &third); }
 
 typedef uint32_t (*call)(struct arguments);
 
-/* The calls that take a queue alone, of which some want it open; both; and a pass alone. csq_new and csq_take_pass,
- * which fill one, and csq_free, which takes an empty one, stand apart. */
+/* The calls that take a queue alone, of which some want it open; both; and a pass alone. csq_new
+ * and csq_take_pass, which fill one, and csq_free, which takes an empty one, stand apart. */
 static const call of_queue[] = { out_of,  close_of, len_of,    file_len_of, peek_of,
                                  judge_of, left_by,  listed_of, left_of };
 static const call of_open[] = { out_of, close_of, len_of, file_len_of, peek_of, judge_of, left_by };
-static const call of_both[] = { back_of,  insert_of, put_back_of,       next_of,       remove_of,       routine_of,
-                                owed_of,  file_of,   judged_removal_of, judged_end_of, judged_insert_of, reuse_of };
-static const call of_pass[] = { drop_of, holding_of, mark_of, complete_of, cancelled_of, flag_of, read_of };
+static const call of_both[] = { back_of,           insert_of,     put_back_of,      next_of,
+                                remove_of,         routine_of,    owed_of,          file_of,
+                                judged_removal_of, judged_end_of, judged_insert_of, reuse_of };
+static const call of_pass[] = { drop_of,      holding_of, mark_of, complete_of,
+                                cancelled_of, flag_of,    read_of };
 
 #define EACH(calls) (size_t at = 0; at < sizeof(calls) / sizeof *(calls); at++)
 
@@ -74,7 +104,8 @@ static void begin_outs(void) {
 static void every_call_refuses_an_empty_handle(void) {
     struct csq_queue queue = CSQ_EMPTY, none = CSQ_EMPTY;
     struct csq_pass pass = CSQ_EMPTY, nobody = CSQ_EMPTY;
-    struct arguments neither = { &none, &nobody }, no_pass = { &queue, &nobody }, no_queue = { &none, &pass };
+    struct arguments neither = { &none, &nobody }, no_pass = { &queue, &nobody },
+                     no_queue = { &none, &pass };
     IS(csq_new(&queue, &small), CSQ_OK);
     IS(csq_take_pass(&queue, &pass), CSQ_OK);
     begin_outs();
@@ -174,7 +205,8 @@ static void end_pair(struct pair *pair) {
 
 static void refuse_the_other_pass(call make) {
     struct pair pair = pair_by(make);
-    struct arguments crossed = { &pair.queues[0], &pair.passes[1] }, other = { &pair.queues[1], &pair.passes[0] };
+    struct arguments crossed = { &pair.queues[0], &pair.passes[1] },
+                     other = { &pair.queues[1], &pair.passes[0] };
     struct csq_irp irp = { UNWRITTEN, UNWRITTEN };
     IS(csq_insert(&pair.queues[0], &pair.passes[0], 0, 0, 0, &irp), CSQ_OK);
     begin_outs();
@@ -221,8 +253,9 @@ static uint32_t bare_limited_of(struct arguments a) {
     return csq_new_queue_with_file_limits(a.queue, &small, one_limit, 1);
 }
 
-/* Whoever leaves the number out, as a binding may, has no queue whose passes are known: two such have one number, and
- * each would take the other's passes. So such a queue hands none out, whatever else stands in the way. */
+/* A binding may leave the number out. Two such queues have the same number, so neither could tell
+ * its passes from the other's. A queue without a number therefore hands out no pass, and returns
+ * CSQ_EMPTY_HANDLE even if another refusal would fit too. */
 static void refuse_a_pass_without_a_number(call make) {
     struct csq_queue queue = CSQ_EMPTY;
     struct csq_pass pass = CSQ_EMPTY;
@@ -277,7 +310,8 @@ static void a_queue_made_after_another_is_another(void) {
 static void a_closed_queue_refuses_every_other_call(void) {
     struct pair pair = pair_by(new_of);
     struct csq_pass nobody = CSQ_EMPTY;
-    struct arguments both = { &pair.queues[0], &pair.passes[1] }, no_pass = { &pair.queues[0], &nobody };
+    struct arguments both = { &pair.queues[0], &pair.passes[1] },
+                     no_pass = { &pair.queues[0], &nobody };
     IS(csq_give_back(&pair.queues[0], &pair.passes[0]), CSQ_OK);
     IS(csq_close(&pair.queues[0]), CSQ_OK);
     begin_outs();
@@ -338,8 +372,8 @@ static void only_a_closed_queue_reports_what_is_left(void) {
     IS(csq_free(&queue), CSQ_OK);
 }
 
-static void left_is(struct csq_queue *queue, uint32_t irp, uint32_t life, uint32_t cancelled, uint32_t completed,
-                    uint32_t status) {
+static void left_is(struct csq_queue *queue, uint32_t irp, uint32_t life, uint32_t cancelled,
+                    uint32_t completed, uint32_t status) {
     struct csq_left of = { UNWRITTEN, UNWRITTEN, UNWRITTEN, UNWRITTEN };
     IS(csq_read_left(queue, irp, &of), CSQ_OK);
     IS(of.life, life);
@@ -360,8 +394,8 @@ static void the_list_is(struct csq_queue *queue, const uint32_t *irps, size_t co
     IS(irp, UNWRITTEN);
 }
 
-/* IRP 0 is home and cancelled, 1 home, 2 completed, 3 completed as cancelled, 4 in its next life and home, 5 and 6
- * listed, and 7 in its next life and listed first. */
+/* IRP 0 is home and cancelled, 1 home, 2 completed, 3 completed as cancelled, 4 in its next life
+ * and home, 5 and 6 listed, and 7 in its next life and listed first. */
 static struct device device_to_close(uint32_t list) {
     struct csq_size size = size_of(8, 2, list);
     size.first_life = 3;

@@ -1,4 +1,5 @@
-/* The header alone: each name that it promises, as C and as C++. Compiled with all warnings as errors. */
+/* The header alone: each name that it promises, as C and as C++. Compiled with all warnings as
+ * errors. */
 #include "csq.h"
 
 /* A second time does no harm. */
@@ -68,28 +69,38 @@ static uint32_t way(void) {
     uint32_t wrong = csq_new(&queue, &size) | csq_free(&queue);
     wrong |= csq_new_with_file_limits(&queue, &size, limits, 1) | csq_take_pass(&queue, &pass);
     wrong |= csq_insert(&queue, &pass, 0, 0, 1, &irp) | csq_remove(&queue, &pass, irp);
-    wrong |= csq_put_back(&queue, &pass, irp, 1, &irp) | csq_remove(&queue, &pass, irp) | csq_complete(&pass, irp, 0);
+    wrong |= csq_put_back(&queue, &pass, irp, 1, &irp) | csq_remove(&queue, &pass, irp) |
+             csq_complete(&pass, irp, 0);
     wrong |= csq_reuse(&queue, &pass, irp, &number) | csq_insert(&queue, &pass, 0, 0, 0, &irp);
-    wrong |= csq_cancel(&queue, &pass, irp, &its_lock, NULL, &number) | csq_insert(&queue, &pass, 1, 0, 0, &irp);
-    wrong |= csq_peek_next(&queue, CSQ_ANY, 0, &irp) | csq_len(&queue, &number) | csq_file_len(&queue, 0, &number);
-    wrong |= csq_judge_peek(&queue, CSQ_ANY, 0, irp.irp, &number, &other) | (number ^ CSQ_PEEK_AGREES);
+    wrong |= csq_cancel(&queue, &pass, irp, &its_lock, NULL, &number) |
+             csq_insert(&queue, &pass, 1, 0, 0, &irp);
+    wrong |= csq_peek_next(&queue, CSQ_ANY, 0, &irp) | csq_len(&queue, &number) |
+             csq_file_len(&queue, 0, &number);
+    wrong |=
+        csq_judge_peek(&queue, CSQ_ANY, 0, irp.irp, &number, &other) | (number ^ CSQ_PEEK_AGREES);
     wrong |= csq_judge_cleanup(&queue, 0, &irp.irp, 1, &number) | (number ^ CSQ_ANY);
     wrong |= csq_mark_cancel(&pass, irp, &number) | csq_cancel_routine(&queue, &pass, irp);
     wrong |= csq_judge_remove(&queue, &pass, irp, &number) | (number ^ CSQ_REMOVE_NOT_LISTED);
     wrong |= csq_judge_insert(&queue, &pass, irp, &number) | (number ^ CSQ_USE_GOT_CANCELLED);
-    wrong |= csq_judge_complete(&queue, &pass, irp, CSQ_STATUS_PENDING, &number) | (number ^ CSQ_USE_GOT_CANCELLED);
-    wrong |= csq_complete_cancelled(&pass, irp) | (csq_cancel_owed(&queue, &pass, irp) ^ CSQ_NOT_OWED);
+    wrong |= csq_judge_complete(&queue, &pass, irp, CSQ_STATUS_PENDING, &number) |
+             (number ^ CSQ_USE_GOT_CANCELLED);
+    wrong |=
+        csq_complete_cancelled(&pass, irp) | (csq_cancel_owed(&queue, &pass, irp) ^ CSQ_NOT_OWED);
     wrong |= csq_drain(&queue, &pass, 0, &its_lock, NULL, &number) | csq_free(NULL);
     wrong |= csq_drain_with(&queue, &pass, 0, &its_lock, NULL, &number) | (number ^ 0);
     wrong |= csq_cancel_with(&queue, &pass, irp, &its_lock, &events, &number) | (number ^ 0);
     wrong |= csq_cleanup_with(&queue, &pass, 0, &its_lock, &events, &number) | (number ^ 0);
-    wrong |= csq_cleanup(&queue, &pass, 0, &its_lock, NULL, &number) | (csq_version() ^ CSQ_VERSION_NUMBER);
+    wrong |= csq_cleanup(&queue, &pass, 0, &its_lock, NULL, &number) |
+             (csq_version() ^ CSQ_VERSION_NUMBER);
     wrong |= csq_close_file(&queue, &pass, 0) | csq_read_cancel(&pass, 0, &number, &other);
     wrong |= csq_read_status(&pass, 0, &number, &other) | csq_count_held(&pass, &number, &other);
-    wrong |= csq_count_passes_out(&queue, &number) | (csq_remove_next(&queue, &pass, CSQ_ANY, &irp) ^ CSQ_NONE);
+    wrong |= csq_count_passes_out(&queue, &number) |
+             (csq_remove_next(&queue, &pass, CSQ_ANY, &irp) ^ CSQ_NONE);
     wrong |= (csq_abandon_pass(&pass) | csq_abandon_pass(&pass)) ^ CSQ_EMPTY_HANDLE;
-    wrong |= (csq_close(&queue) ^ CSQ_PASSES_OUT) | (csq_read_listed(&queue, CSQ_ANY, &number) ^ CSQ_NOT_CLOSED);
-    wrong |= (csq_read_left(&queue, 0, &left) ^ CSQ_NOT_CLOSED) | (csq_give_back(&queue, &pass) ^ CSQ_EMPTY_HANDLE);
+    wrong |= (csq_close(&queue) ^ CSQ_PASSES_OUT) |
+             (csq_read_listed(&queue, CSQ_ANY, &number) ^ CSQ_NOT_CLOSED);
+    wrong |= (csq_read_left(&queue, 0, &left) ^ CSQ_NOT_CLOSED) |
+             (csq_give_back(&queue, &pass) ^ CSQ_EMPTY_HANDLE);
     return wrong | (uint32_t)held;
 }
 
@@ -115,10 +126,11 @@ static int insert_statuses_are_right(void) {
     static const struct {
         uint32_t code, status;
     } rows[] = {
-        { CSQ_OK, 0x00000103 },          { CSQ_CANCELLED, 0x00000103 },   { CSQ_FILE_CLOSED, 0xC0000128 },
-        { CSQ_FULL, 0xC000009A },        { CSQ_FILE_FULL, 0xC000009A },   { CSQ_UNKNOWN_IRP, 0xC000000D },
-        { CSQ_UNKNOWN_FILE, 0xC000000D }, { CSQ_NOT_HOME, 0xC000000D },    { CSQ_CLOSED, 0xC000000D },
-        { CSQ_EMPTY_HANDLE, 0xC000000D },
+        { CSQ_OK, 0x00000103 },           { CSQ_CANCELLED, 0x00000103 },
+        { CSQ_FILE_CLOSED, 0xC0000128 },  { CSQ_FULL, 0xC000009A },
+        { CSQ_FILE_FULL, 0xC000009A },    { CSQ_UNKNOWN_IRP, 0xC000000D },
+        { CSQ_UNKNOWN_FILE, 0xC000000D }, { CSQ_NOT_HOME, 0xC000000D },
+        { CSQ_CLOSED, 0xC000000D },       { CSQ_EMPTY_HANDLE, 0xC000000D },
     };
     int right = 1;
     for (size_t row = 0; row < sizeof rows / sizeof *rows; row++) {
@@ -132,8 +144,9 @@ int main(void) {
     while (*name_of(named)) {
         named++;
     }
-    int fits = named == CSQ_OTHER_QUEUE + 1 && sizeof(struct csq_irp) == 8 && sizeof(struct csq_size) == 24 &&
-               sizeof(struct csq_left) == 16 && sizeof queue == 16 && sizeof pass == 16;
+    int fits = named == CSQ_OTHER_QUEUE + 1 && sizeof(struct csq_irp) == 8 &&
+               sizeof(struct csq_size) == 24 && sizeof(struct csq_left) == 16 &&
+               sizeof queue == 16 && sizeof pass == 16;
     report("the_header_names_what_is_there", fits && way() == 0);
     report("each_code_has_its_name", names_are_right(named));
     report("an_insert_has_its_status", insert_statuses_are_right());

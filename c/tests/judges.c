@@ -9,7 +9,9 @@ struct judged {
 static void judge_each(const struct device *device, const struct judged *rows, size_t count) {
     for (size_t at = 0; at < count; at++) {
         uint32_t verdict = UNWRITTEN, skipped = UNWRITTEN;
-        IS(csq_judge_peek(&device->queue, rows[at].after, rows[at].file, rows[at].answer, &verdict, &skipped), CSQ_OK);
+        IS(csq_judge_peek(&device->queue, rows[at].after, rows[at].file, rows[at].answer, &verdict,
+                          &skipped),
+           CSQ_OK);
         IS(verdict, rows[at].verdict);
         IS(skipped, rows[at].skipped);
     }
@@ -18,14 +20,22 @@ static void judge_each(const struct device *device, const struct judged *rows, s
 static void the_peeks_of_a_driver_are_judged(uint32_t list) {
     /* The list is 0 (file object 0), 1 (1), 2 (0), 3 (1); 4 isn't listed. */
     static const struct judged rows[] = {
-        { CSQ_ANY, CSQ_ANY, 0, CSQ_PEEK_AGREES, UNWRITTEN },     { 3, CSQ_ANY, CSQ_ANY, CSQ_PEEK_AGREES, UNWRITTEN },
-        { 0, 0, 2, CSQ_PEEK_AGREES, UNWRITTEN },                 { 2, 0, CSQ_ANY, CSQ_PEEK_AGREES, UNWRITTEN },
-        { CSQ_ANY, CSQ_ANY, CSQ_ANY, CSQ_PEEK_SKIPS, 0 },        { CSQ_ANY, CSQ_ANY, 3, CSQ_PEEK_SKIPS, 0 },
-        { CSQ_ANY, 1, 3, CSQ_PEEK_SKIPS, 1 },                    { 0, CSQ_ANY, 2, CSQ_PEEK_SKIPS, 1 },
-        { 2, CSQ_ANY, 1, CSQ_PEEK_BACKWARDS, UNWRITTEN },        { 2, CSQ_ANY, 2, CSQ_PEEK_BACKWARDS, UNWRITTEN },
-        { 3, 1, 1, CSQ_PEEK_BACKWARDS, UNWRITTEN },              { 0, 0, 3, CSQ_PEEK_NO_MATCH, UNWRITTEN },
-        { 2, 7, 2, CSQ_PEEK_NO_MATCH, UNWRITTEN },               { CSQ_ANY, 1, 0, CSQ_PEEK_NO_MATCH, UNWRITTEN },
-        { CSQ_ANY, CSQ_ANY, 4, CSQ_PEEK_NOT_LISTED, UNWRITTEN }, { 1, 1, 1000, CSQ_PEEK_NOT_LISTED, UNWRITTEN },
+        { CSQ_ANY, CSQ_ANY, 0, CSQ_PEEK_AGREES, UNWRITTEN },
+        { 3, CSQ_ANY, CSQ_ANY, CSQ_PEEK_AGREES, UNWRITTEN },
+        { 0, 0, 2, CSQ_PEEK_AGREES, UNWRITTEN },
+        { 2, 0, CSQ_ANY, CSQ_PEEK_AGREES, UNWRITTEN },
+        { CSQ_ANY, CSQ_ANY, CSQ_ANY, CSQ_PEEK_SKIPS, 0 },
+        { CSQ_ANY, CSQ_ANY, 3, CSQ_PEEK_SKIPS, 0 },
+        { CSQ_ANY, 1, 3, CSQ_PEEK_SKIPS, 1 },
+        { 0, CSQ_ANY, 2, CSQ_PEEK_SKIPS, 1 },
+        { 2, CSQ_ANY, 1, CSQ_PEEK_BACKWARDS, UNWRITTEN },
+        { 2, CSQ_ANY, 2, CSQ_PEEK_BACKWARDS, UNWRITTEN },
+        { 3, 1, 1, CSQ_PEEK_BACKWARDS, UNWRITTEN },
+        { 0, 0, 3, CSQ_PEEK_NO_MATCH, UNWRITTEN },
+        { 2, 7, 2, CSQ_PEEK_NO_MATCH, UNWRITTEN },
+        { CSQ_ANY, 1, 0, CSQ_PEEK_NO_MATCH, UNWRITTEN },
+        { CSQ_ANY, CSQ_ANY, 4, CSQ_PEEK_NOT_LISTED, UNWRITTEN },
+        { 1, 1, 1000, CSQ_PEEK_NOT_LISTED, UNWRITTEN },
     };
     struct device device = device_of(size_of(5, 2, list));
     uint32_t verdict = UNWRITTEN, skipped = UNWRITTEN;
@@ -47,8 +57,8 @@ struct cleaned {
 static void what_a_cleanup_left_is_reported(uint32_t list) {
     /* The list is 0 (file object 0), 1 (1), 2 (0), 3 (1). */
     static const struct cleaned rows[] = {
-        { 0, { 9, 9 }, 0 },       { 1, { 9, 9 }, 1 },       { 0, { 0, 9 }, 2 }, { 0, { 2, 9 }, 0 },
-        { 0, { 2, 0 }, CSQ_ANY }, { 1, { 0, 2 }, 1 },       { 1, { 1, 0 }, 3 }, { 1, { 1, 3 }, CSQ_ANY },
+        { 0, { 9, 9 }, 0 },       { 1, { 9, 9 }, 1 }, { 0, { 0, 9 }, 2 }, { 0, { 2, 9 }, 0 },
+        { 0, { 2, 0 }, CSQ_ANY }, { 1, { 0, 2 }, 1 }, { 1, { 1, 0 }, 3 }, { 1, { 1, 3 }, CSQ_ANY },
     };
     struct device device = device_of(size_of(4, 2, list));
     uint32_t left = UNWRITTEN;
@@ -63,7 +73,8 @@ static void what_a_cleanup_left_is_reported(uint32_t list) {
     IS(left, 3);
     IS(csq_judge_cleanup(&device.queue, 1, rows[7].excused, 0, &left), CSQ_OK);
     IS(left, 1);
-    /* None is left of a file object that there isn't, but whoever asks for it asks for another one. */
+    /* None is left of a file object that there isn't, but a caller that asks for it asks for
+     * another one. */
     IS(csq_judge_cleanup(&device.queue, 2, rows[7].excused, 0, &left), CSQ_UNKNOWN_FILE);
     IS(csq_judge_cleanup(&device.queue, CSQ_ANY, rows[7].excused, 0, &left), CSQ_UNKNOWN_FILE);
     IS(left, 1);

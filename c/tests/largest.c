@@ -1,5 +1,6 @@
-/* The largest queue: filled and emptied in one thread, and by 256 threads with a pass each, in which each IRP is completed
- * exactly once in each of its lives. The arguments are another number of threads, and of lives. */
+/* The largest queue: filled and emptied in one thread, and by 256 threads with a pass each, in
+ * which each IRP is completed exactly once in each of its lives. The arguments are another number
+ * of threads, and of lives. */
 #define _POSIX_C_SOURCE 200809L
 #include "csq_requests.h"
 
@@ -11,7 +12,8 @@
 
 enum { IRPS = CSQ_MOST_IRPS, FILES = CSQ_MOST_FILES, MOST_THREADS = 256 };
 
-/* Over the vector, whose removals by name or by file object take the longer the more are listed, only a few are made. */
+/* Over the vector, whose removals by name or by file object take the longer the more are listed,
+ * only a few are made. */
 enum { FEW = 16 };
 
 static void the_largest_queue_is_filled_and_emptied(uint32_t list) {
@@ -40,7 +42,8 @@ static void the_largest_queue_is_filled_and_emptied(uint32_t list) {
     end(&device);
 }
 
-/* A file object has a limit of its own, whatever its number, and is closed alone. One without has room for all IRPs. */
+/* A file object has a limit of its own, whatever its number, and is closed alone. One without has
+ * room for all IRPs. */
 static void the_last_file_object_has_its_limit(uint32_t list) {
     static uint32_t file_limits[FILES];
     struct csq_size size = { IRPS, FILES, IRPS, CHECK_PASSES, 0, list };
@@ -94,7 +97,8 @@ static void all_requests_of_the_largest_queue_carry_their_values(uint32_t list) 
     IS(csq_requests_free(&requests), CSQ_OK);
 }
 
-/* Each pass is handed out, of the smallest queue, of one of the most IRPs for one file object, and of the largest. */
+/* Each pass is handed out, of the smallest queue, of one of the most IRPs for one file object, and
+ * of the largest. */
 static void hand_out_all(struct csq_size size) {
     struct csq_queue queue = CSQ_EMPTY;
     static struct csq_pass passes[CSQ_MOST_PASSES + 1];
@@ -186,7 +190,8 @@ static void end_removed(struct csq_pass *pass, uint32_t code, struct csq_irp irp
     }
 }
 
-/* Puts back what a removal got. A cancel takes no lock, so it may have come since: then this pass completes the IRP. */
+/* Puts back what a removal got. A cancel takes no lock, so it may have come since: then this pass
+ * completes the IRP. */
 static void return_to_queue(struct csq_pass *pass, struct csq_irp irp) {
     struct csq_irp context = irp;
     uint32_t code = csq_put_back(&queue, pass, irp, 0, &context);
@@ -254,8 +259,8 @@ static void *reuse_share(void *of) {
     return NULL;
 }
 
-/* All IRPs are listed at once, ended by all threads, and begin their next life. Those that were put back or missed end
- * by a drain. */
+/* All IRPs are listed at once, ended by all threads, and begin their next life. Those that were put
+ * back or missed end by a drain. */
 static void live_once(void) {
     uint32_t len = UNWRITTEN, drained = UNWRITTEN;
     memset(completed, 0, sizeof completed);
@@ -291,7 +296,8 @@ static void each_irp_is_completed_once_by_all_threads(uint32_t list) {
     }
     IS(csq_free(&queue), CSQ_OK);
     IS(removed + cancelled, (unsigned long)IRPS * lives);
-    snprintf(check_note, sizeof check_note, " (%u threads, %u lives: %lu removed, %lu by a cancel; %lu put back)",
+    snprintf(check_note, sizeof check_note,
+             " (%u threads, %u lives: %lu removed, %lu by a cancel; %lu put back)",
              (unsigned)threads, (unsigned)lives, removed, cancelled, went_back);
 }
 

@@ -1,7 +1,9 @@
-/* The limit of a list and those of its file objects: met, and freed again by each way out of the list. */
+/* The limit of a list and those of its file objects: met, and freed again by each way out of the
+ * list. */
 #include "check.h"
 
-static struct device limited(uint32_t list, uint32_t limit, const uint32_t *file_limits, uint32_t files) {
+static struct device limited(uint32_t list, uint32_t limit, const uint32_t *file_limits,
+                             uint32_t files) {
     struct csq_size size = { 8, files, limit, CHECK_PASSES, 0, list };
     struct device device = { CSQ_EMPTY, { CSQ_EMPTY, CSQ_EMPTY, CSQ_EMPTY, CSQ_EMPTY }, 8 };
     IS(csq_new_with_file_limits(&device.queue, &size, file_limits, files), CSQ_OK);

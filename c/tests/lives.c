@@ -7,7 +7,8 @@ static void reuse(struct device *device, uint32_t irp, uint32_t want) {
     IS(life, want);
 }
 
-static void reads(struct device *device, uint32_t irp, uint32_t want_life, uint32_t want_cancelled) {
+static void reads(struct device *device, uint32_t irp, uint32_t want_life,
+                  uint32_t want_cancelled) {
     uint32_t life = UNWRITTEN, cancelled = UNWRITTEN, status = UNWRITTEN;
     IS(csq_read_cancel(&device->passes[2], irp, &life, &cancelled), CSQ_OK);
     IS(life, want_life);
@@ -179,7 +180,8 @@ static void not_completed_is_returned_before_lives_spent(uint32_t list) {
     end(&device);
 }
 
-/* What a pass held and owed in one life it neither completes nor takes out in the next one, and the other way round. */
+/* What a pass held and owed in one life it neither completes nor takes out in the next one, and the
+ * other way round. */
 static void what_is_held_or_owed_is_so_in_its_life(uint32_t list) {
     struct device device = device_of(size_of(2, 1, list));
     struct csq_pass *by = &device.passes[0];

@@ -1,4 +1,5 @@
-/* The calls that take the caller's lock themselves: what they complete, whom they notify of it, and when. */
+/* The calls that take the caller's lock themselves: what they complete, whom they notify of it, and
+ * when. */
 #include "check.h"
 
 /* The caller's lock, and what the callback and the events were called with. */
@@ -146,7 +147,8 @@ static void a_drained_file_object_is_used_again(uint32_t list) {
     put(&device, 0, 2, 1);
     put(&device, 0, 3, 1);
     IS(mark(&device, 2, 3, 0), 1);
-    IS(csq_drain(&device.queue, &device.passes[1], 2, &lock, &callback, &completed), CSQ_UNKNOWN_FILE);
+    IS(csq_drain(&device.queue, &device.passes[1], 2, &lock, &callback, &completed),
+       CSQ_UNKNOWN_FILE);
     IS(completed, UNWRITTEN);
     IS(csq_drain(&device.queue, &device.passes[1], 1, &lock, &callback, &completed), CSQ_OK);
     IS(completed, 2);
@@ -163,8 +165,8 @@ static void a_drained_file_object_is_used_again(uint32_t list) {
     end(&device);
 }
 
-/* A drain ends what is listed. What was removed before is for the file object still, and so for its next owner, unless
- * a cleanup has closed it. */
+/* A drain ends what is listed. What was removed before is for the file object still, and so for its
+ * next owner, unless a cleanup has closed it. */
 static void a_drain_leaves_what_was_removed_before(uint32_t list) {
     static const uint32_t notified[] = { 1 };
     struct device device = device_of(size_of(2, 1, list));
@@ -257,7 +259,8 @@ static void an_irp_is_listed_until_its_cancel_routine_has_run(uint32_t list) {
     end(&device);
 }
 
-/* Notes an IRP that was completed, once the lock is free, and begins its next life by the pass of the call. */
+/* Notes an IRP that was completed, once the lock is free, and begins its next life by the pass of
+ * the call. */
 static void reuse_it(void *context, struct csq_irp irp) {
     struct watch *watch = (struct watch *)context;
     struct csq_pass *by = &watch->device->passes[1];
@@ -281,7 +284,8 @@ static void the_events_were(const struct watch *watch, const uint32_t *want, uin
 }
 
 static void whoever_is_notified_after_a_completion_may_reuse(uint32_t list) {
-    static const uint32_t cancelled[] = { 0, 10 }, drained[] = { 1, 11, 3, 13 }, cleaned[] = { 2, 12 };
+    static const uint32_t cancelled[] = { 0, 10 }, drained[] = { 1, 11, 3, 13 },
+                          cleaned[] = { 2, 12 };
     struct device device = device_of(size_of(4, 2, list));
     struct watch watch = watch_of(&device);
     struct csq_lock lock = { lock_it, unlock_it, &watch };
@@ -342,7 +346,8 @@ static void what_another_completes_is_no_event(uint32_t list) {
     uint32_t completed = UNWRITTEN;
     put(&device, 0, 0, 0);
     IS(take(&device, 2, CSQ_ANY), 0);
-    IS(csq_cancel_with(&device.queue, &device.passes[1], irp_in(0, 0), &lock, &events, &completed), CSQ_OK);
+    IS(csq_cancel_with(&device.queue, &device.passes[1], irp_in(0, 0), &lock, &events, &completed),
+       CSQ_OK);
     IS(completed, 0);
     IS(watch.count, 0);
     end(&device);

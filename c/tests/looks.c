@@ -5,7 +5,8 @@
 static uint32_t peek(const struct device *device, uint32_t after, uint32_t file) {
     struct csq_irp irp = { UNWRITTEN, UNWRITTEN };
     uint32_t code = csq_peek_next(&device->queue, after, file, &irp);
-    CHECK(code == CSQ_OK ? irp.life == 0 : code == CSQ_NONE && irp.irp == UNWRITTEN && irp.life == UNWRITTEN);
+    CHECK(code == CSQ_OK ? irp.life == 0
+                         : code == CSQ_NONE && irp.irp == UNWRITTEN && irp.life == UNWRITTEN);
     return code == CSQ_OK ? irp.irp : CSQ_ANY;
 }
 

@@ -1,6 +1,7 @@
-/* Memory: each call for it refused, what is given back, and that no call takes any but those that make something.
- * The linker leads all calls for memory here (--wrap). c/run-tests writes calls.h from csq.h: it makes of each call a
- * macro that notes it, and has the list `calls` of their names. */
+/* Memory: each call for it refused, what is given back, and that no call takes any but those that
+ * make something. The linker leads all calls for memory here (--wrap). c/run-tests writes calls.h
+ * from csq.h: it makes of each call a macro that notes it, and has the list `calls` of their
+ * names. */
 #include "csq.h"
 
 #include <errno.h>
@@ -100,8 +101,8 @@ static uint32_t make(struct csq_queue *queue, uint32_t list, bool limited) {
     return limited ? csq_new_with_file_limits(queue, &size, file_limits, 2) : csq_new(queue, &size);
 }
 
-/* Makes a queue while a call for memory is refused, and frees it; returns whether the refusal was met. One that is met
- * alone may be made good. */
+/* Makes a queue while a call for memory is refused, and frees it; returns whether the refusal was
+ * met. One that is met alone may be made good. */
 static bool try_new(uint32_t list, bool limited, unsigned long which, bool later) {
     struct csq_queue queue = CSQ_EMPTY;
     unsigned long before = blocks;
@@ -194,8 +195,8 @@ static void other_refusals_come_before_that_of_memory(uint32_t list) {
 /* Of a large queue: more than the 1,024 IRPs and 256 file objects of one that isn't. */
 enum { IRPS = 2048, FILES = 512 };
 
-/* One life of each IRP: by turns removed, put back and removed again; removed by its context; cancelled before and
- * after its insert. */
+/* One life of each IRP: by turns removed, put back and removed again; removed by its context;
+ * cancelled before and after its insert. */
 static void lead_through_a_life(struct device *device, uint32_t irp, uint32_t life) {
     struct csq_irp name = { irp, life };
     uint32_t way = irp % 4, next = UNWRITTEN, found = UNWRITTEN, value = UNWRITTEN;
@@ -229,7 +230,8 @@ static void lead_each_through_two_lives(struct device *device) {
     }
 }
 
-/* What is reported of a queue in which all IRPs are listed in their third life, the even ones with a canceller. */
+/* What is reported of a queue in which all IRPs are listed in their third life, the even ones with
+ * a canceller. */
 static void look_at(struct device *device) {
     static const uint32_t excused[] = { 7 };
     struct csq_irp irp = irp_in(UNWRITTEN, UNWRITTEN);
@@ -253,7 +255,8 @@ static void look_at(struct device *device) {
     IS(stored, 7 + FILES);
 }
 
-/* What a driver does beside it: a removal and a completion, a removal and an insert; and each of what is listed. */
+/* What a driver does beside it: a removal and a completion, a removal and an insert; and each of
+ * what is listed. */
 static void judge(struct device *device) {
     struct csq_pass *pass = &device->passes[0];
     uint32_t verdict = UNWRITTEN;
@@ -348,7 +351,8 @@ static void a_pass_that_is_freed_keeps_no_memory(uint32_t list) {
     IS(blocks, before);
 }
 
-/* Only the first hand-out of a pass takes memory: one that came back keeps its blocks until its queue ends. */
+/* Only the first hand-out of a pass takes memory: one that came back keeps its blocks until its
+ * queue ends. */
 static void a_pass_that_came_back_is_handed_out_without_memory(uint32_t list) {
     struct csq_queue queue = CSQ_EMPTY;
     struct csq_pass pass = CSQ_EMPTY;
@@ -418,22 +422,27 @@ static void each_call_that_makes_no_queue_was_made_without_memory(void) {
     }
 }
 
-/* How many bytes a queue of so many IRPs takes, of which one may be listed: the limit chooses no kind of list. */
+/* How many bytes a queue of this many IRPs takes, of which one may be listed: the limit chooses no
+ * kind of list. */
 static size_t bytes_of(uint32_t irps, uint32_t list, bool limited) {
     struct csq_queue queue = CSQ_EMPTY;
     struct csq_size size = { irps, 2, 1, 1, 0, list };
     wanted = 0;
-    IS(limited ? csq_new_with_file_limits(&queue, &size, file_limits, 2) : csq_new(&queue, &size), CSQ_OK);
+    IS(limited ? csq_new_with_file_limits(&queue, &size, file_limits, 2) : csq_new(&queue, &size),
+       CSQ_OK);
     size_t bytes = wanted;
     IS(csq_free(&queue), CSQ_OK);
     return bytes;
 }
 
-/* The two kinds of list answer alike, but take different room. CSQ_AUTO is one of them, by the number of IRPs. */
+/* The two kinds of list answer alike, but take different room. CSQ_AUTO is one of them, by the
+ * number of IRPs. */
 static void a_queue_has_the_list_that_was_asked_for(void) {
-    static const uint32_t sizes[] = { CSQ_AUTO_VECTOR_IRPS, CSQ_AUTO_VECTOR_IRPS + 1, CSQ_MOST_IRPS };
+    static const uint32_t sizes[] = { CSQ_AUTO_VECTOR_IRPS, CSQ_AUTO_VECTOR_IRPS + 1,
+                                      CSQ_MOST_IRPS };
     for (size_t at = 0; at < 2 * (sizeof sizes / sizeof *sizes); at++) {
-        uint32_t irps = sizes[at / 2], chosen = irps <= CSQ_AUTO_VECTOR_IRPS ? CSQ_VECTOR : CSQ_CHAINS;
+        uint32_t irps = sizes[at / 2],
+                 chosen = irps <= CSQ_AUTO_VECTOR_IRPS ? CSQ_VECTOR : CSQ_CHAINS;
         bool limited = at % 2;
         CHECK(bytes_of(irps, CSQ_VECTOR, limited) < bytes_of(irps, CSQ_CHAINS, limited));
         IS(bytes_of(irps, CSQ_AUTO, limited), bytes_of(irps, chosen, limited));

@@ -1,12 +1,15 @@
-/* Ignores the result of each call that is CSQ_NODISCARD: each must be a warning, and each such call stands here. */
+/* Ignores the result of each call that is CSQ_NODISCARD: each must be a warning, and each such call
+ * stands here. */
 #define _POSIX_C_SOURCE 200809L
 #include <csq_requests.h>
 
-void ignore(struct csq_queue *queue, struct csq_pass *pass, const struct csq_size *size, const struct csq_lock *lock,
-            const struct csq_callback *callback, const struct csq_events *events, struct csq_irp *irp, uint32_t *out);
+void ignore(struct csq_queue *queue, struct csq_pass *pass, const struct csq_size *size,
+            const struct csq_lock *lock, const struct csq_callback *callback,
+            const struct csq_events *events, struct csq_irp *irp, uint32_t *out);
 
-void ignore(struct csq_queue *queue, struct csq_pass *pass, const struct csq_size *size, const struct csq_lock *lock,
-            const struct csq_callback *callback, const struct csq_events *events, struct csq_irp *irp, uint32_t *out) {
+void ignore(struct csq_queue *queue, struct csq_pass *pass, const struct csq_size *size,
+            const struct csq_lock *lock, const struct csq_callback *callback,
+            const struct csq_events *events, struct csq_irp *irp, uint32_t *out) {
     csq_new_queue(queue, size);
     csq_new_queue_with_file_limits(queue, size, out, 1);
     csq_new(queue, size);
@@ -36,11 +39,11 @@ void ignore(struct csq_queue *queue, struct csq_pass *pass, const struct csq_siz
     csq_cleanup_with(queue, pass, 0, lock, events, out);
 }
 
-void ignore_requests(struct csq_requests *requests, const struct csq_request *request, struct csq_request *next,
-                     struct csq_irp *name, void **value);
+void ignore_requests(struct csq_requests *requests, const struct csq_request *request,
+                     struct csq_request *next, struct csq_irp *name, void **value);
 
-void ignore_requests(struct csq_requests *requests, const struct csq_request *request, struct csq_request *next,
-                     struct csq_irp *name, void **value) {
+void ignore_requests(struct csq_requests *requests, const struct csq_request *request,
+                     struct csq_request *next, struct csq_irp *name, void **value) {
     csq_requests_new(&requests, NULL, NULL, NULL);
     csq_requests_free(&requests);
     csq_requests_submit(requests, *value, 0, 0, name);

@@ -1,6 +1,7 @@
-/* What one thread writes before a call is seen by another after its own call, though neither has the lock in between:
- * the order that the header promises. The thread sanitizer knows of it by the header alone where it doesn't see into the
- * library. Without an argument each row is run, else the one of this number. */
+/* What one thread writes before a call is seen by another after its own call, though neither has
+ * the lock in between: the order that the header promises. The thread sanitizer knows of it by the
+ * header alone where it doesn't see into the library. Without an argument each row is run,
+ * otherwise the one of this number. */
 #include "check.h"
 
 #include <pthread.h>
@@ -28,7 +29,9 @@ static void put_it_back(struct csq_pass *pass) {
     pthread_mutex_unlock(&mutex);
 }
 static void complete(struct csq_pass *pass) { IS(csq_complete(pass, the_irp, 0), CSQ_OK); }
-static void complete_cancelled(struct csq_pass *pass) { IS(csq_complete_cancelled(pass, the_irp), CSQ_OK); }
+static void complete_cancelled(struct csq_pass *pass) {
+    IS(csq_complete_cancelled(pass, the_irp), CSQ_OK);
+}
 static void cancel_owed(struct csq_pass *pass) {
     pthread_mutex_lock(&mutex);
     IS(csq_cancel_owed(&device.queue, pass, the_irp), CSQ_OK);

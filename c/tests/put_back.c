@@ -1,7 +1,8 @@
 /* IRPs that a worker took and puts back, with a cancel before it, in between and after it. */
 #include "check.h"
 
-/* When a cancel comes: never; before the worker takes the IRP; while it has it; after it has put it back. */
+/* When a cancel comes: never; before the worker takes the IRP; while it has it; after it has put it
+ * back. */
 enum { NEVER, BEFORE, BETWEEN, AFTER, TIMES };
 
 static void cancel_if(struct device *device, int comes, uint32_t found) {
@@ -21,8 +22,8 @@ static void counts_are(struct device *device, int pass, uint32_t listed, uint32_
     IS(owed, 0);
 }
 
-/* The worker takes the IRP, unless its canceller has it, and puts it back. Then it is left lying: its canceller takes
- * it, or, where no cancel came, a removal. */
+/* The worker takes the IRP, unless its canceller has it, and puts it back. Then it is left lying:
+ * its canceller takes it, or, where no cancel came, a removal. */
 static void take_and_put_back(struct device *device, uint32_t when, uint32_t front) {
     static const uint32_t codes[TIMES] = { CSQ_OK, CSQ_NOT_HELD, CSQ_CANCELLED, CSQ_OK };
     struct csq_irp irp = irp_in(0, 0);
@@ -58,8 +59,8 @@ static void no_cancel_is_lost_whenever_it_comes(uint32_t list) {
     }
 }
 
-/* Three workers take it and put it back in turns. Whoever put it back has nothing of it any more, and the context of its
- * insert still names it. */
+/* Three workers take it and put it back in turns. A worker that has put it back has nothing of it
+ * any more, and the context of its insert still names it. */
 static void another_worker_goes_on_with_it(uint32_t list) {
     struct device device = device_of(size_of(2, 1, list));
     struct csq_irp irp = irp_in(0, 0);
@@ -94,8 +95,9 @@ struct placed {
 
 static void it_stands_at_the_front_or_at_the_end(uint32_t list) {
     static const struct placed rows[] = {
-        { 0, 1, { 0, 1, 2, 3 } }, { 0, 0, { 1, 2, 3, 0 } }, { 1, 1, { 1, 0, 2, 3 } }, { 2, 1u << 31, { 2, 0, 1, 3 } },
-        { 2, 0, { 0, 1, 3, 2 } }, { 3, 0, { 0, 1, 2, 3 } }, { 3, 1, { 3, 0, 1, 2 } },
+        { 0, 1, { 0, 1, 2, 3 } },        { 0, 0, { 1, 2, 3, 0 } }, { 1, 1, { 1, 0, 2, 3 } },
+        { 2, 1u << 31, { 2, 0, 1, 3 } }, { 2, 0, { 0, 1, 3, 2 } }, { 3, 0, { 0, 1, 2, 3 } },
+        { 3, 1, { 3, 0, 1, 2 } },
     };
     for (size_t row = 0; row < sizeof rows / sizeof *rows; row++) {
         struct device device = device_of(size_of(4, 2, list));
@@ -114,8 +116,8 @@ static void it_stands_at_the_front_or_at_the_end(uint32_t list) {
     }
 }
 
-/* IRP 0 was removed, 1 is listed, 2 was got cancelled by its insert and 3 by its cancel routine, 4 is owed, 5 was
- * completed, 6 is another pass's, and 7 is home. */
+/* IRP 0 was removed, 1 is listed, 2 was got cancelled by its insert and 3 by its cancel routine, 4
+ * is owed, 5 was completed, 6 is another pass's, and 7 is home. */
 static struct device device_of_each(uint32_t list) {
     struct device device = device_of(size_of(8, 1, list));
     IS(mark(&device, 0, 2, 0), 0);
@@ -164,8 +166,8 @@ static void what_the_pass_did_not_remove_is_refused(uint32_t list) {
     end(&device);
 }
 
-/* IRP 0 was removed from file object 0, and meanwhile these were inserted, each for a file object, and perhaps that one
- * was closed. Of each file object two may be listed, and three in all. */
+/* IRP 0 was removed from file object 0, and meanwhile these were inserted, each for a file object,
+ * and perhaps that one was closed. Of each file object two may be listed, and three in all. */
 struct meanwhile {
     uint32_t inserted[3], closed, code;
 };
@@ -192,18 +194,21 @@ static void what_finds_no_place_stays_with_its_pass(uint32_t list) {
             IS(csq_close_file(&device.queue, &device.passes[2], 0), CSQ_OK);
         }
         IS(put_back(&device, 1, irp_in(0, 0), 1), rows[row].code);
-        /* It is held still, and is completed as anything that was removed, or is put back once there is a place. */
+        /* It is held still, and is completed as anything that was removed, or is put back once
+         * there is a place. */
         if (rows[row].code == CSQ_FULL || rows[row].code == CSQ_FILE_FULL) {
             CHECK(take(&device, 2, rows[row].inserted[0]) != CSQ_ANY);
             IS(put_back(&device, 1, irp_in(0, 0), 1), CSQ_OK);
         } else {
-            IS(csq_complete(&device.passes[1], irp_in(0, 0), 7), rows[row].code == CSQ_OK ? CSQ_NOT_HELD : CSQ_OK);
+            IS(csq_complete(&device.passes[1], irp_in(0, 0), 7),
+               rows[row].code == CSQ_OK ? CSQ_NOT_HELD : CSQ_OK);
         }
         end(&device);
     }
 }
 
-/* A put-back that is refused doesn't look whether the IRP was cancelled, and leaves the pass free to complete it. */
+/* A put-back that is refused doesn't look whether the IRP was cancelled, and leaves the pass free
+ * to complete it. */
 static void a_refused_put_back_leaves_a_cancel_where_it_is(uint32_t list) {
     struct device device = device_of(size_of(2, 1, list));
     for (uint32_t irp = 0; irp < 2; irp++) {

@@ -1,5 +1,6 @@
-/* Two threads that go for the same IRPs, one after the other: one inserts or removes them, or removes them and puts them
- * back, the other cancels each at about the same moment. The argument is the number of queues. */
+/* Two threads that go for the same IRPs, one after the other: one inserts or removes them, or
+ * removes them and puts them back, the other cancels each at about the same moment. The argument is
+ * the number of queues. */
 #include "check.h"
 
 #include <pthread.h>
@@ -56,7 +57,8 @@ static void *cancel_each(void *unused) {
         faults_of_cancel += csq_mark_cancel(&device.passes[1], name, &found) != CSQ_OK;
         if (found) {
             pthread_mutex_lock(&mutex);
-            faults_of_cancel += csq_cancel_routine(&device.queue, &device.passes[1], name) != CSQ_OK;
+            faults_of_cancel +=
+                csq_cancel_routine(&device.queue, &device.passes[1], name) != CSQ_OK;
             pthread_mutex_unlock(&mutex);
             note(irp, CSQ_STATUS_CANCELLED);
             faults_of_cancel += csq_complete_cancelled(&device.passes[1], name) != CSQ_OK;
@@ -93,7 +95,8 @@ static void remove_this(uint32_t irp) {
     }
 }
 
-/* An odd one at the front. It is left lying there, so that its cancel has to find it: nobody else takes it. */
+/* An odd one at the front. It is left lying there, so that its cancel has to find it: nobody else
+ * takes it. */
 static void put_back_this(uint32_t irp) {
     struct csq_irp name = { irp, 0 };
     uint32_t code = CSQ_OK;
@@ -160,8 +163,9 @@ static void race_in_each_queue(uint32_t list, void (*call)(uint32_t), int insert
         race(call);
         end_of_race();
     }
-    snprintf(check_note, sizeof check_note, " (%lu queues of %d IRPs: the cancel was first for %lu, and last for %lu)",
-             queues, IRPS, insert_before ? by_cancel : by_first, insert_before ? by_first : by_cancel);
+    snprintf(check_note, sizeof check_note,
+             " (%lu queues of %d IRPs: the cancel was first for %lu, and last for %lu)", queues,
+             IRPS, insert_before ? by_cancel : by_first, insert_before ? by_first : by_cancel);
 }
 
 static void an_insert_and_a_cancel(uint32_t list) {
@@ -174,9 +178,10 @@ static void a_removal_and_a_cancel(uint32_t list) {
 
 static void a_put_back_and_a_cancel(uint32_t list) {
     race_in_each_queue(list, put_back_this, 1);
-    snprintf(check_note, sizeof check_note,
-             " (%lu queues of %d IRPs: the cancel found %lu listed, the put-back found %lu cancelled)", queues, IRPS,
-             by_cancel, by_first);
+    snprintf(
+        check_note, sizeof check_note,
+        " (%lu queues of %d IRPs: the cancel found %lu listed, the put-back found %lu cancelled)",
+        queues, IRPS, by_cancel, by_first);
 }
 
 int main(int count, char **words) {

@@ -1,4 +1,5 @@
-/* Each cause of a refusal, in the order in which they are tested, and that a refusal changes nothing. */
+/* Each cause of a refusal, in the order in which they are tested, and that a refusal changes
+ * nothing. */
 #include "check.h"
 
 static void an_insert_is_refused_for_its_first_cause(uint32_t list) {
@@ -173,14 +174,22 @@ static void sizes_out_of_range_are_refused(void) {
     static const struct csq_size good[] = { { 1, 1, 1, 1, 0, 0 },
                                             { 65535, 16384, 65535, 1024, 0x3FFFFFFF, 1 },
                                             { 2, 16384, 1, 1, 0, 1 },
-                                            { CSQ_MOST_IRPS, CSQ_MOST_FILES, 1, CSQ_MOST_PASSES, CSQ_LAST_LIFE, 0 } };
-    static const struct csq_size bad[] = { { 0, 1, 1, 1, 0, 0 },    { 65536, 1, 1, 1, 0, 0 },
-                                           { 1, 0, 1, 1, 0, 0 },    { 1, 16385, 1, 1, 0, 0 },
-                                           { 4, 1, 0, 1, 0, 0 },    { 4, 1, 5, 1, 0, 0 },
-                                           { 1, 1, 1, 0, 0, 0 },    { 1, 1, 1, 1025, 0, 0 },
-                                           { 1, 1, 1, 1, 1u << 30, 0 }, { 1, 1, 1, 1, UINT32_MAX, 0 },
-                                           { 1, 1, 1, 1, 0, 3 },    { 1, 1, 1, 1, 0, UINT32_MAX },
-                                           { UINT32_MAX, UINT32_MAX, UINT32_MAX, UINT32_MAX, UINT32_MAX, UINT32_MAX } };
+                                            { CSQ_MOST_IRPS, CSQ_MOST_FILES, 1, CSQ_MOST_PASSES,
+                                              CSQ_LAST_LIFE, 0 } };
+    static const struct csq_size bad[] = { { 0, 1, 1, 1, 0, 0 },
+                                           { 65536, 1, 1, 1, 0, 0 },
+                                           { 1, 0, 1, 1, 0, 0 },
+                                           { 1, 16385, 1, 1, 0, 0 },
+                                           { 4, 1, 0, 1, 0, 0 },
+                                           { 4, 1, 5, 1, 0, 0 },
+                                           { 1, 1, 1, 0, 0, 0 },
+                                           { 1, 1, 1, 1025, 0, 0 },
+                                           { 1, 1, 1, 1, 1u << 30, 0 },
+                                           { 1, 1, 1, 1, UINT32_MAX, 0 },
+                                           { 1, 1, 1, 1, 0, 3 },
+                                           { 1, 1, 1, 1, 0, UINT32_MAX },
+                                           { UINT32_MAX, UINT32_MAX, UINT32_MAX, UINT32_MAX,
+                                             UINT32_MAX, UINT32_MAX } };
     for (size_t at = 0; at < sizeof good / sizeof *good; at++) {
         IS(tried_over_all(good[at]), CSQ_OK);
     }

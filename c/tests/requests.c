@@ -1,7 +1,8 @@
 /* The calls of csq_requests.h, in one thread. */
 #include "requests_check.h"
 
-static void the_lengths_are(struct csq_requests *requests, uint32_t file, uint32_t listed, uint32_t under_way) {
+static void the_lengths_are(struct csq_requests *requests, uint32_t file, uint32_t listed,
+                            uint32_t under_way) {
     uint32_t got_listed = UNWRITTEN, got_under_way = UNWRITTEN;
     IS(csq_requests_len(requests, file, &got_listed, &got_under_way), CSQ_OK);
     IS(got_listed, listed);
@@ -148,7 +149,8 @@ static void what_is_put_back_keeps_its_name(uint32_t list) {
     IS(csq_requests_free(&requests), CSQ_OK);
 }
 
-/* A cancel comes between the removal and the put-back: the request is still taken, and it is completed as cancelled. */
+/* A cancel comes between the removal and the put-back: the request is still taken, and it is
+ * completed as cancelled. */
 static void what_a_cancel_has_named_is_not_put_back(uint32_t list) {
     struct report report;
     struct csq_requests *requests = reported(2, list, &report);
@@ -323,7 +325,7 @@ struct causes {
     uint32_t code;
 };
 
-/* Submits so many requests for the second file object, and takes each. Returns the last. */
+/* Submits `count` requests for the second file object, and takes each. Returns the last. */
 static struct csq_request take_some(struct csq_requests *requests, uint32_t count) {
     struct csq_request taken = { { 0, 0 }, 0, NULL };
     for (uint32_t at = 0; at < count; at++) {

@@ -1,4 +1,5 @@
-/* What the tests of csq_requests.h share: queues whose values are numbers, and what their events were called with. */
+/* What the tests of csq_requests.h share: queues whose values are numbers, and what their events
+ * were called with. */
 #ifndef REQUESTS_CHECK_H
 #define REQUESTS_CHECK_H
 
@@ -29,7 +30,8 @@ static inline uint32_t number_of(const void *value) {
     return (uint32_t)*(const int *)value;
 }
 
-static inline void note(void *context, struct csq_irp name, void *value, uint32_t more, uint32_t under_way) {
+static inline void note(void *context, struct csq_irp name, void *value, uint32_t more,
+                        uint32_t under_way) {
     struct report *report = context;
     uint32_t listed = UNWRITTEN, all = UNWRITTEN;
     void *none = NULL;
@@ -39,10 +41,15 @@ static inline void note(void *context, struct csq_irp name, void *value, uint32_
     IS(csq_requests_cancel(report->requests, name, &none), under_way ? CSQ_NONE : CSQ_STALE);
     report->events[report->count++ % 16] = number_of(value) + more;
 }
-static inline void note_before(void *context, struct csq_irp name, void *value) { note(context, name, value, 0, 1); }
-static inline void note_after(void *context, struct csq_irp name, void *value) { note(context, name, value, 100, 0); }
+static inline void note_before(void *context, struct csq_irp name, void *value) {
+    note(context, name, value, 0, 1);
+}
+static inline void note_after(void *context, struct csq_irp name, void *value) {
+    note(context, name, value, 100, 0);
+}
 
-static inline struct csq_requests *made(uint32_t irps, uint32_t list, const struct csq_requests_events *events) {
+static inline struct csq_requests *made(uint32_t irps, uint32_t list,
+                                        const struct csq_requests_events *events) {
     struct csq_requests *requests = NULL;
     struct csq_size size = size_of(irps, FILES, list);
     IS(csq_requests_new(&requests, &size, NULL, events), CSQ_OK);
@@ -56,21 +63,24 @@ static inline struct csq_requests *reported(uint32_t irps, uint32_t list, struct
     return report->requests;
 }
 
-static inline void the_events_were(const struct report *report, const uint32_t *want, uint32_t count) {
+static inline void the_events_were(const struct report *report, const uint32_t *want,
+                                   uint32_t count) {
     IS(report->count, count);
     for (uint32_t at = 0; at < count; at++) {
         IS(report->events[at], want[at]);
     }
 }
 
-static inline struct csq_irp submit(struct csq_requests *requests, int value, uint32_t file, uint32_t front) {
+static inline struct csq_irp submit(struct csq_requests *requests, int value, uint32_t file,
+                                    uint32_t front) {
     struct csq_irp name = { UNWRITTEN, UNWRITTEN };
     IS(csq_requests_submit(requests, number(value), file, front, &name), CSQ_OK);
     return name;
 }
 
 /* The value of the next request, or CSQ_ANY, and the request. */
-static inline uint32_t next(struct csq_requests *requests, uint32_t file, struct csq_request *request) {
+static inline uint32_t next(struct csq_requests *requests, uint32_t file,
+                            struct csq_request *request) {
     uint32_t code = csq_requests_next(requests, file, 0, request);
     CHECK(code == CSQ_OK || code == CSQ_NONE);
     return code == CSQ_OK ? number_of(request->value) : CSQ_ANY;

@@ -1,4 +1,5 @@
-/* csq_requests.h alone: each call that it promises, as C and as C++. Compiled with all warnings as errors. */
+/* csq_requests.h alone: each call that it promises, as C and as C++. Compiled with all warnings as
+ * errors. */
 #ifndef _POSIX_C_SOURCE
 #define _POSIX_C_SOURCE 200809L
 #endif
@@ -20,10 +21,14 @@ static uint32_t way(void) {
     int job = 0;
     void *value = NULL;
     uint32_t wrong = csq_requests_new(&requests, &size, limits, &events);
-    wrong |= csq_requests_submit(requests, &job, 0, 0, &name) | csq_requests_cancel(requests, name, &value);
-    wrong |= csq_requests_submit(requests, &job, 0, 0, &name) | csq_requests_next(requests, CSQ_ANY, 0, &taken);
-    wrong |= csq_requests_put_back(requests, &taken, 1) | csq_requests_next(requests, 0, CSQ_FOREVER, &taken);
-    wrong |= csq_requests_is_cancelled(requests, &taken) | csq_requests_complete(requests, &taken, CSQ_STATUS_SUCCESS);
+    wrong |= csq_requests_submit(requests, &job, 0, 0, &name) |
+             csq_requests_cancel(requests, name, &value);
+    wrong |= csq_requests_submit(requests, &job, 0, 0, &name) |
+             csq_requests_next(requests, CSQ_ANY, 0, &taken);
+    wrong |= csq_requests_put_back(requests, &taken, 1) |
+             csq_requests_next(requests, 0, CSQ_FOREVER, &taken);
+    wrong |= csq_requests_is_cancelled(requests, &taken) |
+             csq_requests_complete(requests, &taken, CSQ_STATUS_SUCCESS);
     wrong |= csq_requests_drain(requests, CSQ_ANY, 0) | csq_requests_cleanup(requests, 0, 0);
     wrong |= csq_requests_len(requests, 0, &listed, &under_way) | listed | under_way;
     csq_requests_close(requests);

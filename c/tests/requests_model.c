@@ -364,7 +364,7 @@ static void make_calls(uint32_t count) {
     }
 }
 
-/* That each code came: else the draws leave out what they are for. */
+/* Each code has to come up: otherwise the draws leave out what they are for. */
 static void each_code_was_seen(void) {
     static const enum csq_code codes[] = {
         CSQ_OK,        CSQ_UNKNOWN_IRP, CSQ_UNKNOWN_FILE, CSQ_FILE_CLOSED, CSQ_FULL,

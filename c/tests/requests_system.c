@@ -1,5 +1,5 @@
-/* csq_requests.h over a system that refuses each thing that csq_requests_new takes, and whose clock stands still. Macros
- * lead its calls here. */
+/* csq_requests.h over a system that refuses each thing that csq_requests_new takes, and whose clock
+ * stands still. Macros lead its calls here. */
 #define _POSIX_C_SOURCE 200809L
 #include "csq.h"
 
@@ -55,7 +55,8 @@ static int read_clock(clockid_t clock, struct timespec *now) {
 
 #define TAKEN(kind, code, call) (refuses() ? (code) : taken(kind, (uint32_t)(call)))
 #define csq_new(...) TAKEN(QUEUE, CSQ_NO_MEMORY, csq_new(__VA_ARGS__))
-#define csq_new_with_file_limits(...) TAKEN(QUEUE, CSQ_NO_MEMORY, csq_new_with_file_limits(__VA_ARGS__))
+#define csq_new_with_file_limits(...) \
+    TAKEN(QUEUE, CSQ_NO_MEMORY, csq_new_with_file_limits(__VA_ARGS__))
 #define csq_take_pass(...) TAKEN(PASS, CSQ_NO_MEMORY, csq_take_pass(__VA_ARGS__))
 #define pthread_condattr_init(...) TAKEN(ATTRIBUTES, ENOMEM, pthread_condattr_init(__VA_ARGS__))
 #define pthread_cond_init(...) TAKEN(SIGNAL, EAGAIN, pthread_cond_init(__VA_ARGS__))
@@ -64,7 +65,8 @@ static int read_clock(clockid_t clock, struct timespec *now) {
 /* Of an empty handle too it returns CSQ_OK. */
 #define csq_free(queue) given(QUEUE, (queue)->at ? csq_free(queue) : (uint32_t)CSQ_EMPTY_HANDLE)
 #define csq_give_back(...) given(PASS, csq_give_back(__VA_ARGS__))
-#define pthread_condattr_destroy(...) given(ATTRIBUTES, (uint32_t)pthread_condattr_destroy(__VA_ARGS__))
+#define pthread_condattr_destroy(...) \
+    given(ATTRIBUTES, (uint32_t)pthread_condattr_destroy(__VA_ARGS__))
 #define pthread_cond_destroy(...) given(SIGNAL, (uint32_t)pthread_cond_destroy(__VA_ARGS__))
 #define pthread_mutex_destroy(...) given(MUTEX, (uint32_t)pthread_mutex_destroy(__VA_ARGS__))
 
@@ -76,7 +78,8 @@ static void nothing_is_out(void) {
     }
 }
 
-/* A queue that is made while so many things were asked for is refused one, and then nothing of it is kept. */
+/* A queue is made, and the thing with this number that it asks for is refused: then nothing of the
+ * queue is kept. */
 static struct csq_requests *made_but_for(unsigned which, uint32_t list, const uint32_t *limits) {
     struct csq_requests *requests = NULL;
     struct csq_size size = size_of(4, FILES, list);
@@ -103,8 +106,8 @@ static unsigned refuse_each(uint32_t list, const uint32_t *limits) {
 
 static void a_queue_that_is_refused_something_keeps_nothing(uint32_t list) {
     static const uint32_t limits[FILES] = { 1, 2, 3 };
-    /* Four blocks, a queue and its pass, a mutex, the signal of the drains, those of each file object and of all, and
-     * their attributes. */
+    /* Four blocks, a queue and its pass, a mutex, the signal of the drains, those of each file
+     * object and of all, and their attributes. */
     IS(refuse_each(list, NULL), 4 + 2 + 2 + FILES + 1 + 1);
     IS(refuse_each(list, limits), 4 + 2 + 2 + FILES + 1 + 1);
 }

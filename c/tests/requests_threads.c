@@ -1,5 +1,5 @@
-/* The calls of csq_requests.h by threads that wait, cancel, put back and drain. The argument is the number of requests of
- * each submitter. */
+/* The calls of csq_requests.h by threads that wait, cancel, put back and drain. The argument is the
+ * number of requests of each submitter. */
 #include "requests_check.h"
 
 #include <sched.h>
@@ -197,8 +197,8 @@ static void the_end_of_a_wait_is_a_time(void) {
     }
 }
 
-/* Two requests are taken: one is put back and one completed, in this order or in the other. The drain is of their file
- * object, or of any. */
+/* Two requests are taken: one is put back and one completed, in this order or in the other. The
+ * drain is of their file object, or of any. */
 static void drain_what_is_taken(uint32_t list, int put_back_first, uint32_t file) {
     struct report report;
     struct csq_requests *requests = reported(4, list, &report);
@@ -226,7 +226,8 @@ static void a_drain_waits_for_what_is_taken_and_takes_what_is_put_back(uint32_t 
     drain_what_is_taken(list, 0, CSQ_ANY);
 }
 
-/* A worker's answer, which comes after its put-back was refused, comes before the end of the drain. */
+/* A worker's answer, which comes after its put-back was refused, comes before the end of the
+ * drain. */
 static atomic_uint answered;
 
 static void *drain_until_answered(void *of) {
@@ -334,8 +335,10 @@ static void begin(struct worker *worker, struct csq_requests *requests, void *(*
     IS((unsigned)pthread_create(&worker->thread, NULL, routine, worker), 0);
 }
 
-/* Starts one, and takes the mutex while it waits, until its time is over. One that has ended before is started again. */
-static void hold_up(struct worker *worker, struct csq_requests *requests, void *(*routine)(void *)) {
+/* Starts one, and takes the mutex while it waits, until its time is over. One that has ended before
+ * is started again. */
+static void hold_up(struct worker *worker, struct csq_requests *requests,
+                    void *(*routine)(void *)) {
     const struct csq_requests_file *of = csq_requests_file_of(requests, 0);
     begin(worker, requests, routine);
     pthread_mutex_lock(&requests->mutex);
@@ -390,7 +393,7 @@ static void comes_out(struct csq_irp name, const struct value *value, atomic_ulo
     ++*by;
 }
 
-/* What is over, or is being ended, ends for nobody who comes late by its name. */
+/* A request that has ended, or is being ended, can't be completed or put back by its name. */
 static void comes_late(struct csq_requests *requests, struct csq_irp name) {
     struct csq_request late = { name, 0, NULL };
     fault_unless(csq_requests_complete(requests, &late, CSQ_STATUS_CANCELLED) == CSQ_NOT_HELD);
@@ -418,8 +421,8 @@ static void *submit_all(void *of) {
     for (unsigned long turn = 0; turn < turns; turn++) {
         uint32_t code;
         mine[turn].at = worker->file * turns + turn;
-        while ((code = csq_requests_submit(worker->requests, &mine[turn], worker->file, turn % 5 == 0,
-                                           &mine[turn].name)) == CSQ_FULL) {
+        while ((code = csq_requests_submit(worker->requests, &mine[turn], worker->file,
+                                           turn % 5 == 0, &mine[turn].name)) == CSQ_FULL) {
             sched_yield();
         }
         fault_unless(code == CSQ_OK);
@@ -439,11 +442,13 @@ static void *work(void *of) {
     struct csq_request taken;
     unsigned long turn = 0;
     while (csq_requests_next(worker->requests, worker->file, CSQ_FOREVER, &taken) == CSQ_OK) {
-        uint32_t code = turn++ % 4 == 0 ? csq_requests_put_back(worker->requests, &taken, 0) : (uint32_t)CSQ_NOT_HELD;
+        uint32_t code = turn++ % 4 == 0 ? csq_requests_put_back(worker->requests, &taken, 0)
+                                        : (uint32_t)CSQ_NOT_HELD;
         if (code != CSQ_OK) {
             comes_out(taken.name, taken.value, &served);
-            fault_unless(csq_requests_complete(worker->requests, &taken, code == CSQ_CANCELLED ? CSQ_STATUS_CANCELLED
-                                                                                               : 0) == CSQ_OK);
+            fault_unless(csq_requests_complete(worker->requests, &taken,
+                                               code == CSQ_CANCELLED ? CSQ_STATUS_CANCELLED : 0) ==
+                         CSQ_OK);
             comes_late(worker->requests, taken.name);
         }
     }
@@ -464,7 +469,9 @@ static void each_value_comes_out_once(uint32_t list) {
             /* One for each file object, and one for any. */
             workers[at].file = at < SUBMITTERS + WORKERS - 1 ? at - SUBMITTERS : CSQ_ANY;
         }
-        IS((unsigned)pthread_create(&workers[at].thread, NULL, at < SUBMITTERS ? submit_all : work, &workers[at]), 0);
+        IS((unsigned)pthread_create(&workers[at].thread, NULL, at < SUBMITTERS ? submit_all : work,
+                                    &workers[at]),
+           0);
     }
     for (uint32_t at = 0; at < SUBMITTERS + WORKERS; at++) {
         if (at == SUBMITTERS) {
@@ -478,8 +485,9 @@ static void each_value_comes_out_once(uint32_t list) {
     for (unsigned long at = 0; at < SUBMITTERS * turns; at++) {
         IS(out[at], 1);
     }
-    snprintf(check_note, sizeof check_note, " (%lu served, %lu cancelled, %lu drained)", atomic_load(&served),
-             atomic_load(&cancelled), atomic_load(&drained) - atomic_load(&cancelled));
+    snprintf(check_note, sizeof check_note, " (%lu served, %lu cancelled, %lu drained)",
+             atomic_load(&served), atomic_load(&cancelled),
+             atomic_load(&drained) - atomic_load(&cancelled));
 }
 
 int main(int count, char **words) {

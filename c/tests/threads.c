@@ -1,5 +1,6 @@
-/* Four threads over one queue, under one mutex, with cancels and completions outside of it: each IRP that was inserted
- * is completed exactly once in each of its lives. The argument is the number of turns that each thread makes. */
+/* Four threads over one queue, under one mutex, with cancels and completions outside of it: each
+ * IRP that was inserted is completed exactly once in each of its lives. The argument is the number
+ * of turns that each thread makes. */
 #include "check.h"
 
 #include <pthread.h>
@@ -46,7 +47,8 @@ static uint32_t status_in(uint32_t life) {
     return UINT32_C(0x40000000) + life;
 }
 
-/* Begins the next life of an IRP, if the one in which the pass sees it is the present one, and completed. */
+/* Begins the next life of an IRP, if the one in which the pass sees it is the present one, and
+ * completed. */
 static void renew(struct csq_pass *pass, uint32_t irp) {
     struct csq_irp name = { irp, 0 };
     uint32_t life = 0, cancelled = 0;
@@ -54,7 +56,8 @@ static void renew(struct csq_pass *pass, uint32_t irp) {
     lock(&mutex);
     uint32_t code = csq_reuse(&device.queue, pass, name, &life);
     unlock(&mutex);
-    fault_unless(code == CSQ_NOT_COMPLETED || code == CSQ_STALE || (code == CSQ_OK && life == name.life + 1));
+    fault_unless(code == CSQ_NOT_COMPLETED || code == CSQ_STALE ||
+                 (code == CSQ_OK && life == name.life + 1));
 }
 
 static void remove_one(struct csq_pass *pass, uint32_t file) {
@@ -136,10 +139,12 @@ static void cancel_one(struct csq_pass *pass, uint32_t irp, uint32_t back) {
 /* What a pass reads of an IRP is never older than what it read of it before. */
 static void read_one(struct csq_pass *pass, uint32_t irp, uint32_t *lives) {
     uint32_t life = 0, value = 0;
-    fault_unless(csq_read_cancel(pass, irp, &life, &value) == CSQ_OK && life >= lives[irp] && value <= 1);
+    fault_unless(csq_read_cancel(pass, irp, &life, &value) == CSQ_OK && life >= lives[irp] &&
+                 value <= 1);
     lives[irp] = life;
     uint32_t code = csq_read_status(pass, irp, &life, &value);
-    fault_unless(life >= lives[irp] && (code == CSQ_NONE || value == status_in(life) || value == CSQ_STATUS_CANCELLED));
+    fault_unless(life >= lives[irp] &&
+                 (code == CSQ_NONE || value == status_in(life) || value == CSQ_STATUS_CANCELLED));
 }
 
 static void *serve(void *of) {
@@ -180,7 +185,8 @@ static void begin_counts(void) {
     removed = claimed = found_cancelled = went_back = stale = missed = faults = 0;
 }
 
-/* At the end the passes are back with this thread, and each IRP is home or was completed in its present life. */
+/* At the end the passes are back with this thread, and each IRP is home or was completed in its
+ * present life. */
 static void end_of_lives(void) {
     unsigned long sum = 0;
     struct csq_left left = { 0, 0, 0, 0 };
@@ -200,8 +206,8 @@ static void end_of_lives(void) {
     IS(faults, 0);
     IS(sum, removed + claimed + found_cancelled);
     snprintf(check_note, sizeof check_note,
-             " (%lu completions: %lu removed, %lu by a cancel, %lu found cancelled; %lu put back; %lu cancels came late, "
-             "%lu for another life)",
+             " (%lu completions: %lu removed, %lu by a cancel, %lu found cancelled; %lu put back; "
+             "%lu cancels came late, %lu for another life)",
              sum, removed, claimed, found_cancelled, went_back, missed, stale);
 }
 
@@ -268,12 +274,13 @@ static void cancels_and_cleanups_complete_each_irp_once(uint32_t list) {
         by_cancels += claimed;
         by_cleanups += removed;
     }
-    snprintf(check_note, sizeof check_note, " (%lu queues of %d IRPs: %lu by a cancel, %lu by a cleanup, %lu refused)",
-             queues, IRPS, by_cancels, by_cleanups, refused);
+    snprintf(check_note, sizeof check_note,
+             " (%lu queues of %d IRPs: %lu by a cancel, %lu by a cleanup, %lu refused)", queues,
+             IRPS, by_cancels, by_cleanups, refused);
 }
 
-/* A thread that lives for one IRP: takes a pass, inserts its IRP, removes one or cancels its own, and gives the pass
- * back. */
+/* A thread that lives for one IRP: takes a pass, inserts its IRP, removes one or cancels its own,
+ * and gives the pass back. */
 static void *live_briefly(void *of) {
     uint32_t irp = *(uint32_t *)of, found = 0;
     struct csq_pass pass = CSQ_EMPTY;
@@ -287,7 +294,8 @@ static void *live_briefly(void *of) {
     if (code == CSQ_OK) {
         fault_unless(csq_complete(&pass, context, CSQ_STATUS_SUCCESS) == CSQ_OK);
     } else {
-        fault_unless(csq_cancel(&device.queue, &pass, context, &the_lock, NULL, &found) == CSQ_OK && found == 1);
+        fault_unless(csq_cancel(&device.queue, &pass, context, &the_lock, NULL, &found) == CSQ_OK &&
+                     found == 1);
     }
     lock(&mutex);
     fault_unless(csq_reuse(&device.queue, &pass, context, &context.life) == CSQ_OK);
@@ -318,7 +326,8 @@ static void short_lived_threads_share_the_passes_of_a_queue(uint32_t list) {
     IS(faults, 0);
     IS(csq_close(&device.queue), CSQ_OK);
     IS(csq_free(&device.queue), CSQ_OK);
-    snprintf(check_note, sizeof check_note, " (%lu threads, %d passes)", rounds * AT_A_TIME, PASSES);
+    snprintf(check_note, sizeof check_note, " (%lu threads, %d passes)", rounds * AT_A_TIME,
+             PASSES);
 }
 
 enum { SHARE = IRPS / THREADS };

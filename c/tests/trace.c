@@ -1,6 +1,7 @@
-/* Makes many calls that follow from a seed, right ones and wrong ones, and prints what they answered: two libraries,
- * or the two lists of one, are compared by what this prints. With a fourth word each call has a line, and else each
- * thousand calls have a number that stands for them. */
+/* Makes many calls that follow from a seed, right ones and wrong ones, and prints what they
+ * answered: two libraries, or the two lists of one, are compared by what this prints. With a fourth
+ * word each call has a line, and otherwise each thousand calls have a number that stands for
+ * them. */
 #include "csq.h"
 
 #include <stdio.h>
@@ -161,10 +162,12 @@ static void make_reuse(int by) {
 static void make_look(void) {
     struct csq_irp irp = { 99, 99 };
     uint32_t len = 99, file = some_file();
-    uint32_t code = csq_peek_next(&queue, pick(2) ? CSQ_ANY : some_irp(), pick(2) ? CSQ_ANY : file, &irp);
+    uint32_t code =
+        csq_peek_next(&queue, pick(2) ? CSQ_ANY : some_irp(), pick(2) ? CSQ_ANY : file, &irp);
     report("peek", code, irp.irp, irp.life);
     uint32_t verdict = 99, skipped = 99, after = pick(2) ? CSQ_ANY : some_irp();
-    code = csq_judge_peek(&queue, after, pick(2) ? CSQ_ANY : file, pick(4) ? some_irp() : CSQ_ANY, &verdict, &skipped);
+    code = csq_judge_peek(&queue, after, pick(2) ? CSQ_ANY : file, pick(4) ? some_irp() : CSQ_ANY,
+                          &verdict, &skipped);
     report("judge", code, verdict, skipped);
     uint32_t excused[] = { some_irp(), some_irp() }, left = 99;
     code = csq_judge_cleanup(&queue, file, excused, pick(3), &left);
@@ -200,10 +203,10 @@ static void make_read(int by) {
 }
 
 static void make_call(void) {
-    static void (*const kinds[])(int) = { make_insert,     make_insert,  make_insert,  make_removal,
-                                          make_removal,    make_put_back, make_cancel, make_routine,
-                                          make_routine,    make_completion, make_completion, make_reuse,
-                                          make_reuse,      make_read,    make_judgement };
+    static void (*const kinds[])(
+        int) = { make_insert,     make_insert, make_insert,  make_removal, make_removal,
+                 make_put_back,   make_cancel, make_routine, make_routine, make_completion,
+                 make_completion, make_reuse,  make_reuse,   make_read,    make_judgement };
     int by = (int)pick(PASSES);
     if (pick(200) == 0) {
         uint32_t file = some_file();

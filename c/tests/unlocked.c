@@ -1,9 +1,10 @@
-/* A program that forgets the lock in one thread, for a call that only reads. It is the program's fault: over the plain
- * queue the thread sanitizer has to report it. But the thread that has the lock is answered right all the same, and
- * nothing is freed twice, since a call that only reads doesn't write its handle.
+/* A program that forgets the lock in one thread, for a call that only reads. It is the program's
+ * fault: over the plain queue the thread sanitizer has to report it. But the thread that has the
+ * lock is answered right all the same, and nothing is freed twice, since a call that only reads
+ * doesn't write its handle.
  *
- * With the argument "listed" an IRP comes and goes meanwhile, and csq_len reads what that writes: over a library that the
- * thread sanitizer sees into, it has to report that. */
+ * With the argument "listed" an IRP comes and goes meanwhile, and csq_len reads what that writes:
+ * over a library that the thread sanitizer sees into, it has to report that. */
 #include "check.h"
 
 #include <pthread.h>
@@ -20,7 +21,8 @@ static void remove_with_the_lock(void) {
     struct csq_irp irp = { 0, 0 };
     uint32_t life = 0;
     wrong += listing && csq_insert(&queue, &pass, 0, 0, 0, &irp) != CSQ_OK;
-    wrong += csq_remove_next(&queue, &pass, CSQ_ANY, &irp) != (listing ? (uint32_t)CSQ_OK : (uint32_t)CSQ_NONE);
+    wrong += csq_remove_next(&queue, &pass, CSQ_ANY, &irp) !=
+             (listing ? (uint32_t)CSQ_OK : (uint32_t)CSQ_NONE);
     wrong += listing && csq_complete(&pass, irp, 0) != CSQ_OK;
     wrong += listing && csq_reuse(&queue, &pass, irp, &life) != CSQ_OK;
 }

@@ -1,4 +1,5 @@
-/* The calls for memory, as the linker leads them (--wrap) to a program that counts or refuses them. */
+/* The calls for memory, as the linker leads them (--wrap) to a program that counts or refuses
+ * them. */
 #ifndef WRAPPED_H
 #define WRAPPED_H
 

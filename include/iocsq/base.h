@@ -76,8 +76,9 @@ typedef LONG NTSTATUS;
 #define NT_ERROR(Status) ((((ULONG)(Status)) >> 30) == 3)
 
 /* ---- For a debugger, asserts ---- */
-ULONG DbgPrint(const char *Format, ...);                                   /* on standard output */
-ULONG DbgPrintEx(ULONG ComponentId, ULONG Level, const char *Format, ...); /* errors alone, as by Windows' first mask */
+ULONG DbgPrint(const char *Format, ...); /* on standard output */
+/* Errors alone, as by Windows' first mask. */
+ULONG DbgPrintEx(ULONG ComponentId, ULONG Level, const char *Format, ...);
 VOID IocsqAssert(const char *Expression); /* which doesn't hold: ends the program with a report */
 #define KdPrint(x) ((void)0)
 #define KdPrintEx(x) ((void)0)
@@ -102,15 +103,17 @@ VOID IocsqPagedCode(VOID); /* at DISPATCH_LEVEL: ends the program with a report 
 #endif
 
 /* ---- Lists ---- */
-#define CONTAINING_RECORD(address, type, field) ((type *)(void *)((PCHAR)(address) - offsetof(type, field)))
+#define CONTAINING_RECORD(address, type, field) \
+    ((type *)(void *)((PCHAR)(address) - offsetof(type, field)))
 typedef struct _LIST_ENTRY {
     struct _LIST_ENTRY *Flink;
     struct _LIST_ENTRY *Blink;
 } LIST_ENTRY, *PLIST_ENTRY;
 
-/* Names to the checker an entry that is linked between two others, or unlinked: where one of the three is of a queued
- * IRP, that wants its queue's lock. */
-VOID IocsqTouch(const LIST_ENTRY *Entry, const LIST_ENTRY *Before, const LIST_ENTRY *After, const char *Call);
+/* Names to the checker an entry that is linked between two others, or unlinked: where one of the
+ * three is of a queued IRP, that wants its queue's lock. */
+VOID IocsqTouch(const LIST_ENTRY *Entry, const LIST_ENTRY *Before, const LIST_ENTRY *After,
+                const char *Call);
 
 FORCEINLINE VOID InitializeListHead(PLIST_ENTRY Head) {
     Head->Flink = Head->Blink = Head;
@@ -172,13 +175,15 @@ PVOID NTAPI ExAllocatePoolWithTag(POOL_TYPE PoolType, SIZE_T NumberOfBytes, ULON
 VOID NTAPI ExFreePoolWithTag(PVOID P, ULONG Tag);
 VOID NTAPI ExFreePool(PVOID P);
 typedef ULONG64 POOL_FLAGS;
-PVOID NTAPI ExAllocatePool2(POOL_FLAGS Flags, SIZE_T NumberOfBytes, ULONG Tag); /* filled with zeros */
+/* Filled with zeros. */
+PVOID NTAPI ExAllocatePool2(POOL_FLAGS Flags, SIZE_T NumberOfBytes, ULONG Tag);
 #define RtlZeroMemory(Destination, Length) memset((Destination), 0, (Length))
 #define RtlCopyMemory(Destination, Source, Length) memcpy((Destination), (Source), (Length))
 #define RtlMoveMemory(Destination, Source, Length) memmove((Destination), (Source), (Length))
 #define RtlFillMemory(Destination, Length, Fill) memset((Destination), (Fill), (Length))
 #define RtlEqualMemory(Source1, Source2, Length) (memcmp((Source1), (Source2), (Length)) == 0)
-SIZE_T NTAPI RtlCompareMemory(const void *Source1, const void *Source2, SIZE_T Length); /* how many bytes are equal */
+/* How many bytes are equal. */
+SIZE_T NTAPI RtlCompareMemory(const void *Source1, const void *Source2, SIZE_T Length);
 
 /* Lookaside lists, which keep nothing here: so each use of a freed entry is one of freed memory. */
 typedef PVOID(NTAPI ALLOCATE_FUNCTION)(POOL_TYPE PoolType, SIZE_T NumberOfBytes, ULONG Tag);
@@ -193,10 +198,12 @@ typedef struct _LOOKASIDE {
     PALLOCATE_FUNCTION Allocate;
     PFREE_FUNCTION Free;
 } NPAGED_LOOKASIDE_LIST, *PNPAGED_LOOKASIDE_LIST, PAGED_LOOKASIDE_LIST, *PPAGED_LOOKASIDE_LIST;
-VOID NTAPI ExInitializeNPagedLookasideList(PNPAGED_LOOKASIDE_LIST Lookaside, PALLOCATE_FUNCTION Allocate,
-                                           PFREE_FUNCTION Free, ULONG Flags, SIZE_T Size, ULONG Tag, USHORT Depth);
-VOID NTAPI ExInitializePagedLookasideList(PPAGED_LOOKASIDE_LIST Lookaside, PALLOCATE_FUNCTION Allocate,
-                                          PFREE_FUNCTION Free, ULONG Flags, SIZE_T Size, ULONG Tag, USHORT Depth);
+VOID NTAPI ExInitializeNPagedLookasideList(PNPAGED_LOOKASIDE_LIST Lookaside,
+                                           PALLOCATE_FUNCTION Allocate, PFREE_FUNCTION Free,
+                                           ULONG Flags, SIZE_T Size, ULONG Tag, USHORT Depth);
+VOID NTAPI ExInitializePagedLookasideList(PPAGED_LOOKASIDE_LIST Lookaside,
+                                          PALLOCATE_FUNCTION Allocate, PFREE_FUNCTION Free,
+                                          ULONG Flags, SIZE_T Size, ULONG Tag, USHORT Depth);
 PVOID NTAPI ExAllocateFromNPagedLookasideList(PNPAGED_LOOKASIDE_LIST Lookaside);
 VOID NTAPI ExFreeToNPagedLookasideList(PNPAGED_LOOKASIDE_LIST Lookaside, PVOID Entry);
 VOID NTAPI ExDeleteNPagedLookasideList(PNPAGED_LOOKASIDE_LIST Lookaside);

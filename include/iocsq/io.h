@@ -1,4 +1,5 @@
-/* Of iocsq.h: drivers, devices, IRPs with their stack locations and their cancellation, remove locks, work items. */
+/* Of iocsq.h: drivers, devices, IRPs with their stack locations and their cancellation, remove
+ * locks, work items. */
 #ifndef IOCSQ_IO_H
 #define IOCSQ_IO_H
 #include "kernel.h"
@@ -15,7 +16,8 @@ struct _DEVICE_OBJECT;
 struct _DRIVER_OBJECT;
 struct _IRP;
 typedef ULONG DEVICE_TYPE;
-typedef NTSTATUS(NTAPI DRIVER_INITIALIZE)(struct _DRIVER_OBJECT *DriverObject, PUNICODE_STRING RegistryPath);
+typedef NTSTATUS(NTAPI DRIVER_INITIALIZE)(struct _DRIVER_OBJECT *DriverObject,
+                                          PUNICODE_STRING RegistryPath);
 typedef DRIVER_INITIALIZE *PDRIVER_INITIALIZE;
 typedef VOID(NTAPI DRIVER_UNLOAD)(struct _DRIVER_OBJECT *DriverObject);
 typedef DRIVER_UNLOAD *PDRIVER_UNLOAD;
@@ -23,13 +25,15 @@ typedef NTSTATUS(NTAPI DRIVER_DISPATCH)(struct _DEVICE_OBJECT *DeviceObject, str
 typedef DRIVER_DISPATCH *PDRIVER_DISPATCH;
 typedef VOID(NTAPI DRIVER_CANCEL)(struct _DEVICE_OBJECT *DeviceObject, struct _IRP *Irp);
 typedef DRIVER_CANCEL *PDRIVER_CANCEL;
-typedef NTSTATUS(NTAPI IO_COMPLETION_ROUTINE)(struct _DEVICE_OBJECT *DeviceObject, struct _IRP *Irp, PVOID Context);
+typedef NTSTATUS(NTAPI IO_COMPLETION_ROUTINE)(struct _DEVICE_OBJECT *DeviceObject, struct _IRP *Irp,
+                                              PVOID Context);
 typedef IO_COMPLETION_ROUTINE *PIO_COMPLETION_ROUTINE;
 
 typedef NTSTATUS(NTAPI DRIVER_ADD_DEVICE)(struct _DRIVER_OBJECT *DriverObject,
                                           struct _DEVICE_OBJECT *PhysicalDeviceObject);
 typedef DRIVER_ADD_DEVICE *PDRIVER_ADD_DEVICE;
-typedef VOID(NTAPI IO_DPC_ROUTINE)(PKDPC Dpc, struct _DEVICE_OBJECT *DeviceObject, struct _IRP *Irp, PVOID Context);
+typedef VOID(NTAPI IO_DPC_ROUTINE)(PKDPC Dpc, struct _DEVICE_OBJECT *DeviceObject, struct _IRP *Irp,
+                                   PVOID Context);
 typedef IO_DPC_ROUTINE *PIO_DPC_ROUTINE;
 
 typedef struct _DRIVER_EXTENSION {
@@ -60,12 +64,15 @@ typedef struct _FILE_OBJECT {
     PVOID FsContext;
     PVOID FsContext2;
 } FILE_OBJECT, *PFILE_OBJECT;
-NTSTATUS NTAPI IoCreateDevice(PDRIVER_OBJECT DriverObject, ULONG DeviceExtensionSize, PUNICODE_STRING DeviceName,
-                              DEVICE_TYPE DeviceType, ULONG DeviceCharacteristics, BOOLEAN Exclusive,
+NTSTATUS NTAPI IoCreateDevice(PDRIVER_OBJECT DriverObject, ULONG DeviceExtensionSize,
+                              PUNICODE_STRING DeviceName, DEVICE_TYPE DeviceType,
+                              ULONG DeviceCharacteristics, BOOLEAN Exclusive,
                               PDEVICE_OBJECT *DeviceObject);
-#define IoCreateDeviceSecure(DriverObject, Size, Name, Type, Characteristics, Exclusive, Sddl, Class, DeviceObject) \
-    ((void)(Sddl), (void)(Class),                                                                                    \
-     IoCreateDevice((DriverObject), (Size), (Name), (Type), (Characteristics), (Exclusive), (DeviceObject)))
+#define IoCreateDeviceSecure(DriverObject, Size, Name, Type, Characteristics, Exclusive, Sddl, \
+                             Class, DeviceObject) \
+    ((void)(Sddl), (void)(Class), \
+     IoCreateDevice((DriverObject), (Size), (Name), (Type), (Characteristics), (Exclusive), \
+                    (DeviceObject)))
 extern const UNICODE_STRING IocsqSecurity; /* in the place of all of them */
 #define SDDL_DEVOBJ_KERNEL_ONLY IocsqSecurity
 #define SDDL_DEVOBJ_SYS_ALL IocsqSecurity
@@ -76,14 +83,16 @@ extern const UNICODE_STRING IocsqSecurity; /* in the place of all of them */
 #define SDDL_DEVOBJ_SYS_ALL_ADM_RWX_WORLD_RW_RES_R IocsqSecurity
 #define SDDL_DEVOBJ_SYS_ALL_ADM_RWX_WORLD_RWX_RES_RWX IocsqSecurity
 VOID NTAPI IoDeleteDevice(PDEVICE_OBJECT DeviceObject);
-PDEVICE_OBJECT NTAPI IoAttachDeviceToDeviceStack(PDEVICE_OBJECT SourceDevice, PDEVICE_OBJECT TargetDevice);
+PDEVICE_OBJECT NTAPI IoAttachDeviceToDeviceStack(PDEVICE_OBJECT SourceDevice,
+                                                 PDEVICE_OBJECT TargetDevice);
 VOID NTAPI IoDetachDevice(PDEVICE_OBJECT TargetDevice);
 NTSTATUS NTAPI IoCreateSymbolicLink(PUNICODE_STRING SymbolicLinkName, PUNICODE_STRING DeviceName);
 NTSTATUS NTAPI IoDeleteSymbolicLink(PUNICODE_STRING SymbolicLinkName);
 #define IoInitializeDpcRequest(DeviceObject, DpcRoutine) \
     IocsqInitializeDpcRequest(&(DeviceObject)->Dpc, (DpcRoutine), (DeviceObject))
 VOID IocsqInitializeDpcRequest(PKDPC Dpc, PIO_DPC_ROUTINE DpcRoutine, PDEVICE_OBJECT DeviceObject);
-#define IoRequestDpc(DeviceObject, Irp, Context) (KeInsertQueueDpc(&(DeviceObject)->Dpc, (Irp), (Context)))
+#define IoRequestDpc(DeviceObject, Irp, Context) \
+    (KeInsertQueueDpc(&(DeviceObject)->Dpc, (Irp), (Context)))
 
 /* ---- IRPs ---- */
 typedef struct _IO_STATUS_BLOCK {
@@ -101,7 +110,11 @@ typedef struct _MDL {
     ULONG ByteCount;
     ULONG ByteOffset;
 } MDL, *PMDL;
-typedef enum _MM_PAGE_PRIORITY { LowPagePriority = 0, NormalPagePriority = 16, HighPagePriority = 32 } MM_PAGE_PRIORITY;
+typedef enum _MM_PAGE_PRIORITY {
+    LowPagePriority = 0,
+    NormalPagePriority = 16,
+    HighPagePriority = 32
+} MM_PAGE_PRIORITY;
 #define MdlMappingNoExecute 0x40000000
 #define MmGetSystemAddressForMdlSafe(Mdl, Priority) ((void)(Priority), (Mdl)->MappedSystemVa)
 #define MmGetMdlByteCount(Mdl) ((Mdl)->ByteCount)
@@ -203,19 +216,23 @@ PIRP NTAPI IoAllocateIrp(CCHAR StackSize, BOOLEAN ChargeQuota);
 VOID NTAPI IoFreeIrp(PIRP Irp);
 VOID NTAPI IoReuseIrp(PIRP Irp, NTSTATUS Status);
 
-FORCEINLINE VOID IoSetCompletionRoutine(PIRP Irp, PIO_COMPLETION_ROUTINE CompletionRoutine, PVOID Context,
-                                        BOOLEAN InvokeOnSuccess, BOOLEAN InvokeOnError, BOOLEAN InvokeOnCancel) {
+FORCEINLINE VOID IoSetCompletionRoutine(PIRP Irp, PIO_COMPLETION_ROUTINE CompletionRoutine,
+                                        PVOID Context, BOOLEAN InvokeOnSuccess,
+                                        BOOLEAN InvokeOnError, BOOLEAN InvokeOnCancel) {
     PIO_STACK_LOCATION Next = IoGetNextIrpStackLocation(Irp);
     Next->CompletionRoutine = CompletionRoutine;
     Next->Context = Context;
-    Next->Control = (UCHAR)((InvokeOnSuccess ? SL_INVOKE_ON_SUCCESS : 0) | (InvokeOnError ? SL_INVOKE_ON_ERROR : 0) |
+    Next->Control = (UCHAR)((InvokeOnSuccess ? SL_INVOKE_ON_SUCCESS : 0) |
+                            (InvokeOnError ? SL_INVOKE_ON_ERROR : 0) |
                             (InvokeOnCancel ? SL_INVOKE_ON_CANCEL : 0));
 }
 FORCEINLINE NTSTATUS IoSetCompletionRoutineEx(PDEVICE_OBJECT DeviceObject, PIRP Irp,
-                                              PIO_COMPLETION_ROUTINE CompletionRoutine, PVOID Context,
-                                              BOOLEAN InvokeOnSuccess, BOOLEAN InvokeOnError, BOOLEAN InvokeOnCancel) {
+                                              PIO_COMPLETION_ROUTINE CompletionRoutine,
+                                              PVOID Context, BOOLEAN InvokeOnSuccess,
+                                              BOOLEAN InvokeOnError, BOOLEAN InvokeOnCancel) {
     (void)DeviceObject;
-    IoSetCompletionRoutine(Irp, CompletionRoutine, Context, InvokeOnSuccess, InvokeOnError, InvokeOnCancel);
+    IoSetCompletionRoutine(Irp, CompletionRoutine, Context, InvokeOnSuccess, InvokeOnError,
+                           InvokeOnCancel);
     return STATUS_SUCCESS;
 }
 FORCEINLINE VOID IoCopyCurrentIrpStackLocationToNext(PIRP Irp) {
@@ -234,7 +251,8 @@ FORCEINLINE VOID IoSkipCurrentIrpStackLocation(PIRP Irp) {
     Irp->Tail.Overlay.CurrentStackLocation++;
 }
 
-/* ---- Remove locks, whose acquires and releases are compared by their tags, as the checked build does ---- */
+/* ---- Remove locks ---- */
+/* Their acquires and releases are compared by their tags, as the checked build does. */
 enum { IOCSQ_REMOVE_TAGS = 64 };
 typedef struct _IO_REMOVE_LOCK {
     LONG IoCount; /* 1, and one for each acquire that wasn't released */
@@ -245,14 +263,17 @@ typedef struct _IO_REMOVE_LOCK {
 } IO_REMOVE_LOCK, *PIO_REMOVE_LOCK;
 VOID NTAPI IoInitializeRemoveLockEx(PIO_REMOVE_LOCK Lock, ULONG AllocateTag, ULONG MaxLockedMinutes,
                                     ULONG HighWatermark, ULONG RemlockSize);
-NTSTATUS NTAPI IoAcquireRemoveLockEx(PIO_REMOVE_LOCK RemoveLock, PVOID Tag, PCSTR File, ULONG Line, ULONG RemlockSize);
+NTSTATUS NTAPI IoAcquireRemoveLockEx(PIO_REMOVE_LOCK RemoveLock, PVOID Tag, PCSTR File, ULONG Line,
+                                     ULONG RemlockSize);
 VOID NTAPI IoReleaseRemoveLockEx(PIO_REMOVE_LOCK RemoveLock, PVOID Tag, ULONG RemlockSize);
 VOID NTAPI IoReleaseRemoveLockAndWaitEx(PIO_REMOVE_LOCK RemoveLock, PVOID Tag, ULONG RemlockSize);
 #define IoInitializeRemoveLock(Lock, AllocateTag, MaxLockedMinutes, HighWatermark) \
-    IoInitializeRemoveLockEx(Lock, AllocateTag, MaxLockedMinutes, HighWatermark, sizeof(IO_REMOVE_LOCK))
+    IoInitializeRemoveLockEx(Lock, AllocateTag, MaxLockedMinutes, HighWatermark, \
+                             sizeof(IO_REMOVE_LOCK))
 #define IoAcquireRemoveLock(RemoveLock, Tag) \
     IoAcquireRemoveLockEx(RemoveLock, Tag, __FILE__, __LINE__, sizeof(IO_REMOVE_LOCK))
-#define IoReleaseRemoveLock(RemoveLock, Tag) IoReleaseRemoveLockEx(RemoveLock, Tag, sizeof(IO_REMOVE_LOCK))
+#define IoReleaseRemoveLock(RemoveLock, Tag) \
+    IoReleaseRemoveLockEx(RemoveLock, Tag, sizeof(IO_REMOVE_LOCK))
 #define IoReleaseRemoveLockAndWait(RemoveLock, Tag) \
     IoReleaseRemoveLockAndWaitEx(RemoveLock, Tag, sizeof(IO_REMOVE_LOCK))
 
@@ -269,16 +290,21 @@ VOID FASTCALL ExWaitForRundownProtectionRelease(PEX_RUNDOWN_REF RunRef);
 VOID FASTCALL ExRundownCompleted(PEX_RUNDOWN_REF RunRef);
 
 /* ---- Work items ---- */
-typedef enum _WORK_QUEUE_TYPE { CriticalWorkQueue, DelayedWorkQueue, HyperCriticalWorkQueue } WORK_QUEUE_TYPE;
+typedef enum _WORK_QUEUE_TYPE {
+    CriticalWorkQueue,
+    DelayedWorkQueue,
+    HyperCriticalWorkQueue
+} WORK_QUEUE_TYPE;
 typedef struct _IO_WORKITEM *PIO_WORKITEM;
 typedef VOID(NTAPI IO_WORKITEM_ROUTINE)(PDEVICE_OBJECT DeviceObject, PVOID Context);
 typedef IO_WORKITEM_ROUTINE *PIO_WORKITEM_ROUTINE;
 PIO_WORKITEM NTAPI IoAllocateWorkItem(PDEVICE_OBJECT DeviceObject);
-VOID NTAPI IoQueueWorkItem(PIO_WORKITEM IoWorkItem, PIO_WORKITEM_ROUTINE WorkerRoutine, WORK_QUEUE_TYPE QueueType,
-                           PVOID Context);
+VOID NTAPI IoQueueWorkItem(PIO_WORKITEM IoWorkItem, PIO_WORKITEM_ROUTINE WorkerRoutine,
+                           WORK_QUEUE_TYPE QueueType, PVOID Context);
 VOID NTAPI IoFreeWorkItem(PIO_WORKITEM IoWorkItem);
 ULONG NTAPI IoSizeofWorkItem(VOID);
-VOID NTAPI IoInitializeWorkItem(PVOID IoObject, PIO_WORKITEM IoWorkItem); /* in memory of the driver's */
+/* In memory of the driver's. */
+VOID NTAPI IoInitializeWorkItem(PVOID IoObject, PIO_WORKITEM IoWorkItem);
 VOID NTAPI IoUninitializeWorkItem(PIO_WORKITEM IoWorkItem);
 
 #ifdef __cplusplus

@@ -35,7 +35,8 @@ typedef struct _KLOCK_QUEUE_HANDLE {
 } KLOCK_QUEUE_HANDLE, *PKLOCK_QUEUE_HANDLE;
 VOID NTAPI KeAcquireInStackQueuedSpinLock(PKSPIN_LOCK SpinLock, PKLOCK_QUEUE_HANDLE LockHandle);
 VOID NTAPI KeReleaseInStackQueuedSpinLock(PKLOCK_QUEUE_HANDLE LockHandle);
-VOID NTAPI KeAcquireInStackQueuedSpinLockAtDpcLevel(PKSPIN_LOCK SpinLock, PKLOCK_QUEUE_HANDLE LockHandle);
+VOID NTAPI KeAcquireInStackQueuedSpinLockAtDpcLevel(PKSPIN_LOCK SpinLock,
+                                                    PKLOCK_QUEUE_HANDLE LockHandle);
 VOID NTAPI KeReleaseInStackQueuedSpinLockFromDpcLevel(PKLOCK_QUEUE_HANDLE LockHandle);
 
 typedef struct _FAST_MUTEX {
@@ -53,8 +54,10 @@ VOID NTAPI ExReleaseFastMutexUnsafe(PFAST_MUTEX FastMutex);
 #define KeReleaseGuardedMutex ExReleaseFastMutexUnsafe
 
 VOID IocsqPoint(VOID); /* another thread may come between here */
-#define IOCSQ_INTERLOCKED(call, Target, Value) (IocsqPoint(), call((Target), (Value), __ATOMIC_SEQ_CST))
-#define InterlockedExchangePointer(Target, Value) IOCSQ_INTERLOCKED(__atomic_exchange_n, Target, Value)
+#define IOCSQ_INTERLOCKED(call, Target, Value) \
+    (IocsqPoint(), call((Target), (Value), __ATOMIC_SEQ_CST))
+#define InterlockedExchangePointer(Target, Value) \
+    IOCSQ_INTERLOCKED(__atomic_exchange_n, Target, Value)
 #define InterlockedExchange(Target, Value) IOCSQ_INTERLOCKED(__atomic_exchange_n, Target, Value)
 #define InterlockedExchange64(Target, Value) IOCSQ_INTERLOCKED(__atomic_exchange_n, Target, Value)
 #define InterlockedIncrement(Addend) IOCSQ_INTERLOCKED(__atomic_add_fetch, Addend, 1)
@@ -73,8 +76,10 @@ VOID IocsqPoint(VOID); /* another thread may come between here */
 #define InterlockedCompareExchangePointer InterlockedCompareExchange
 
 /* Lists under a spin lock, at any IRQL up to DISPATCH_LEVEL. Null: the list was empty. */
-PLIST_ENTRY NTAPI ExInterlockedInsertHeadList(PLIST_ENTRY ListHead, PLIST_ENTRY ListEntry, PKSPIN_LOCK Lock);
-PLIST_ENTRY NTAPI ExInterlockedInsertTailList(PLIST_ENTRY ListHead, PLIST_ENTRY ListEntry, PKSPIN_LOCK Lock);
+PLIST_ENTRY NTAPI ExInterlockedInsertHeadList(PLIST_ENTRY ListHead, PLIST_ENTRY ListEntry,
+                                              PKSPIN_LOCK Lock);
+PLIST_ENTRY NTAPI ExInterlockedInsertTailList(PLIST_ENTRY ListHead, PLIST_ENTRY ListEntry,
+                                              PKSPIN_LOCK Lock);
 PLIST_ENTRY NTAPI ExInterlockedRemoveHeadList(PLIST_ENTRY ListHead, PKSPIN_LOCK Lock);
 
 /* ---- Times: of the checker's clock, in turns that of the turns ---- */
@@ -120,24 +125,27 @@ typedef struct _KSEMAPHORE {
     LONG Limit;
 } KSEMAPHORE, *PKSEMAPHORE, *PRKSEMAPHORE;
 VOID NTAPI KeInitializeSemaphore(PRKSEMAPHORE Semaphore, LONG Count, LONG Limit);
-LONG NTAPI KeReleaseSemaphore(PRKSEMAPHORE Semaphore, KPRIORITY Increment, LONG Adjustment, BOOLEAN Wait);
+LONG NTAPI KeReleaseSemaphore(PRKSEMAPHORE Semaphore, KPRIORITY Increment, LONG Adjustment,
+                              BOOLEAN Wait);
 LONG NTAPI KeReadStateSemaphore(PRKSEMAPHORE Semaphore);
 
 typedef struct _KWAIT_BLOCK {
     PVOID Unused;
 } KWAIT_BLOCK, *PKWAIT_BLOCK;
-NTSTATUS NTAPI KeWaitForSingleObject(PVOID Object, KWAIT_REASON Reason, KPROCESSOR_MODE Mode, BOOLEAN Alertable,
-                                     PLARGE_INTEGER Timeout);
-NTSTATUS NTAPI KeWaitForMultipleObjects(ULONG Count, PVOID Object[], WAIT_TYPE WaitType, KWAIT_REASON Reason,
-                                        KPROCESSOR_MODE Mode, BOOLEAN Alertable, PLARGE_INTEGER Timeout,
+NTSTATUS NTAPI KeWaitForSingleObject(PVOID Object, KWAIT_REASON Reason, KPROCESSOR_MODE Mode,
+                                     BOOLEAN Alertable, PLARGE_INTEGER Timeout);
+NTSTATUS NTAPI KeWaitForMultipleObjects(ULONG Count, PVOID Object[], WAIT_TYPE WaitType,
+                                        KWAIT_REASON Reason, KPROCESSOR_MODE Mode,
+                                        BOOLEAN Alertable, PLARGE_INTEGER Timeout,
                                         PKWAIT_BLOCK WaitBlockArray);
 #define KeWaitForMutexObject KeWaitForSingleObject
-NTSTATUS NTAPI KeDelayExecutionThread(KPROCESSOR_MODE Mode, BOOLEAN Alertable, PLARGE_INTEGER Interval);
+NTSTATUS NTAPI KeDelayExecutionThread(KPROCESSOR_MODE Mode, BOOLEAN Alertable,
+                                      PLARGE_INTEGER Interval);
 
 /* ---- Timers and DPCs: one processor's, whose DPCs run one after the other ---- */
 struct _KDPC;
-typedef VOID(NTAPI KDEFERRED_ROUTINE)(struct _KDPC *Dpc, PVOID DeferredContext, PVOID SystemArgument1,
-                                      PVOID SystemArgument2);
+typedef VOID(NTAPI KDEFERRED_ROUTINE)(struct _KDPC *Dpc, PVOID DeferredContext,
+                                      PVOID SystemArgument1, PVOID SystemArgument2);
 typedef KDEFERRED_ROUTINE *PKDEFERRED_ROUTINE;
 typedef struct _KDPC {
     UCHAR Type; /* as Windows has it, once it is initialized */
@@ -196,12 +204,14 @@ extern POBJECT_TYPE *PsThreadType;
 PKTHREAD NTAPI KeGetCurrentThread(VOID);
 #define PsGetCurrentThread KeGetCurrentThread
 KPRIORITY NTAPI KeSetPriorityThread(PKTHREAD Thread, KPRIORITY Priority);
-NTSTATUS NTAPI PsCreateSystemThread(PHANDLE ThreadHandle, ULONG DesiredAccess, POBJECT_ATTRIBUTES ObjectAttributes,
-                                    HANDLE ProcessHandle, PCLIENT_ID ClientId, PKSTART_ROUTINE StartRoutine,
+NTSTATUS NTAPI PsCreateSystemThread(PHANDLE ThreadHandle, ULONG DesiredAccess,
+                                    POBJECT_ATTRIBUTES ObjectAttributes, HANDLE ProcessHandle,
+                                    PCLIENT_ID ClientId, PKSTART_ROUTINE StartRoutine,
                                     PVOID StartContext);
 NTSTATUS NTAPI PsTerminateSystemThread(NTSTATUS ExitStatus);
-NTSTATUS NTAPI ObReferenceObjectByHandle(HANDLE Handle, ACCESS_MASK DesiredAccess, POBJECT_TYPE ObjectType,
-                                         KPROCESSOR_MODE AccessMode, PVOID *Object, PVOID HandleInformation);
+NTSTATUS NTAPI ObReferenceObjectByHandle(HANDLE Handle, ACCESS_MASK DesiredAccess,
+                                         POBJECT_TYPE ObjectType, KPROCESSOR_MODE AccessMode,
+                                         PVOID *Object, PVOID HandleInformation);
 /* Of a thread, a file object or a device. */
 #define ObReferenceObject(Object) IocsqReferenceObject(Object)
 #define ObDereferenceObject(Object) IocsqDereferenceObject(Object)

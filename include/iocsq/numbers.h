@@ -1,5 +1,5 @@
-/* Of iocsq.h: statuses, codes and flags of the WDK. Each line is a name and a number, which iocsq/run-tests compares with
- * mingw-w64's headers. */
+/* Of iocsq.h: statuses, codes and flags of the WDK. Each line is a name and a number, which
+ * iocsq/run-tests compares with mingw-w64's headers. */
 #ifndef IOCSQ_NUMBERS_H
 #define IOCSQ_NUMBERS_H
 

@@ -1,5 +1,6 @@
-/* A device that does one read at a time, and rests after it. Who removes a read and finds that the device can't take it
- * puts it back in front: a dispatch routine, and the DPC of the device's clock. */
+/* A device that does one read at a time, and rests after it. Who removes a read and finds that the
+ * device can't take it puts it back in front: a dispatch routine, and the DPC of the device's
+ * clock. */
 #include "waiting.h"
 
 enum { REST = 2 }; /* ticks */
@@ -42,7 +43,8 @@ static PIRP TakeDone(PEXTENSION Extension) {
     return Done;
 }
 
-/* Nothing is lost where the device is done just before the read goes back: the clock ticks on, and looks again. */
+/* Nothing is lost where the device is done just before the read goes back: the clock ticks on, and
+ * looks again. */
 static VOID Start(PEXTENSION Extension) {
     PIRP Next = IoCsqRemoveNextIrp(&Extension->Reads.Queue, NULL);
     if (Next == NULL) {
@@ -66,7 +68,8 @@ static VOID Start(PEXTENSION Extension) {
 }
 
 static KDEFERRED_ROUTINE Tick;
-static VOID NTAPI Tick(PKDPC Dpc, PVOID DeferredContext, PVOID SystemArgument1, PVOID SystemArgument2) {
+static VOID NTAPI Tick(PKDPC Dpc, PVOID DeferredContext, PVOID SystemArgument1,
+                       PVOID SystemArgument2) {
     PEXTENSION Extension = DeferredContext;
     PIRP Done = TakeDone(Extension);
     UNREFERENCED_PARAMETER(Dpc);

@@ -1,5 +1,5 @@
-/* Inverted calls whose peek contexts are never null: a device control waits for one kind of event, another raises it, and
- * each removal names a file object, or none, and a kind, or all. */
+/* Inverted calls whose peek contexts are never null: a device control waits for one kind of event,
+ * another raises it, and each removal names a file object, or none, and a kind, or all. */
 #include "waiting.h"
 
 #define IOCTL(Function) CTL_CODE(FILE_DEVICE_UNKNOWN, Function, METHOD_BUFFERED, FILE_ANY_ACCESS)
@@ -24,7 +24,8 @@ static ULONG CodeOf(PIRP Irp) {
 /* Of a test's policy too. */
 BOOLEAN IsWanted(PIRP Irp, PVOID PeekContext) {
     PWANTED Wanted = PeekContext;
-    return (Wanted->File == NULL || Wanted->File == FileOf(Irp)) && (Wanted->Code == 0 || Wanted->Code == CodeOf(Irp));
+    return (Wanted->File == NULL || Wanted->File == FileOf(Irp)) &&
+           (Wanted->Code == 0 || Wanted->Code == CodeOf(Irp));
 }
 
 static PIRP NTAPI PeekWanted(PIO_CSQ Csq, PIRP Irp, PVOID PeekContext) {
@@ -61,7 +62,9 @@ static NTSTATUS NTAPI Control(PDEVICE_OBJECT DeviceObject, PIRP Irp) {
     case IOCTL_WAIT_FOR_KEY:
     case IOCTL_WAIT_FOR_BUTTON: return Wait(&Extension->Calls, Irp);
     case IOCTL_RAISE_KEY: CompleteCalls(Extension, NULL, IOCTL_WAIT_FOR_KEY, STATUS_SUCCESS); break;
-    case IOCTL_RAISE_BUTTON: CompleteCalls(Extension, NULL, IOCTL_WAIT_FOR_BUTTON, STATUS_SUCCESS); break;
+    case IOCTL_RAISE_BUTTON:
+        CompleteCalls(Extension, NULL, IOCTL_WAIT_FOR_BUTTON, STATUS_SUCCESS);
+        break;
     default: Finish(Irp, STATUS_INVALID_DEVICE_REQUEST, 0); return STATUS_INVALID_DEVICE_REQUEST;
     }
     return Succeed(DeviceObject, Irp);
@@ -90,8 +93,8 @@ NTSTATUS NTAPI DriverEntry(PDRIVER_OBJECT DriverObject, PUNICODE_STRING Registry
     Calls = &((PEXTENSION)DeviceObject->DeviceExtension)->Calls;
     InitializeListHead(&Calls->Irps);
     KeInitializeSpinLock(&Calls->Lock);
-    IoCsqInitializeEx(&Calls->Queue, InsertWaiting, RemoveWaiting, PeekWanted, LockWaiting, UnlockWaiting,
-                      CompleteWaiting);
+    IoCsqInitializeEx(&Calls->Queue, InsertWaiting, RemoveWaiting, PeekWanted, LockWaiting,
+                      UnlockWaiting, CompleteWaiting);
     DriverObject->DriverUnload = Unload;
     DriverObject->MajorFunction[IRP_MJ_DEVICE_CONTROL] = Control;
     DriverObject->MajorFunction[IRP_MJ_CLEANUP] = Cleanup;

@@ -1,5 +1,5 @@
-/* What the callbacks of calls.c mean: a peek context of their own, which is never null. WRONG is 1 where the policy is
- * missing. */
+/* What the callbacks of calls.c mean: a peek context of their own, which is never null. WRONG is 1
+ * where the policy is missing. */
 #include "iocsq_test.h"
 
 #ifndef WRONG
@@ -12,7 +12,8 @@ const ULONG DriverControls[] = { CODE(0x801), CODE(0x802), CODE(0x803), CODE(0x8
 
 BOOLEAN IsWanted(PIRP Irp, PVOID PeekContext);
 static BOOLEAN Match(PIRP Irp, PVOID PeekContext) {
-    return WRONG == 0 ? IsWanted(Irp, PeekContext) : PeekContext == NULL || IsWanted(Irp, PeekContext);
+    return WRONG == 0 ? IsWanted(Irp, PeekContext)
+                      : PeekContext == NULL || IsWanted(Irp, PeekContext);
 }
 /* A call waits until its kind of event is raised. */
 static BOOLEAN Waits(PIRP Irp) {

@@ -1,5 +1,5 @@
-/* A semaphore and a mutex: the semaphore counts the reads that were queued, a thread serves one for each count, and the
- * queue's lock is a mutex, since all of its callers are at PASSIVE_LEVEL. */
+/* A semaphore and a mutex: the semaphore counts the reads that were queued, a thread serves one for
+ * each count, and the queue's lock is a mutex, since all of its callers are at PASSIVE_LEVEL. */
 #include "waiting.h"
 
 typedef struct _EXTENSION {
@@ -47,7 +47,8 @@ static VOID NTAPI Serve(PVOID StartContext) {
     PVOID Objects[2];
     Objects[0] = &Extension->Stop;
     Objects[1] = &Extension->Queued;
-    while (KeWaitForMultipleObjects(2, Objects, WaitAny, Executive, KernelMode, FALSE, NULL, NULL) != STATUS_WAIT_0) {
+    while (KeWaitForMultipleObjects(2, Objects, WaitAny, Executive, KernelMode, FALSE, NULL,
+                                    NULL) != STATUS_WAIT_0) {
         PIRP Irp = IoCsqRemoveNextIrp(&Extension->Queue, NULL);
         if (Irp != NULL) { /* none where it was cancelled meanwhile */
             Finish(Irp, STATUS_SUCCESS, 1);
@@ -59,7 +60,8 @@ static VOID NTAPI Serve(PVOID StartContext) {
 static NTSTATUS NTAPI Read(PDEVICE_OBJECT DeviceObject, PIRP Irp) {
     PEXTENSION Extension = DeviceObject->DeviceExtension;
 #if WRONG == 3
-    KeReleaseSemaphore(&Extension->Queued, IO_NO_INCREMENT, 1, FALSE); /* the thread may look before the insert */
+    /* The thread may look before the insert. */
+    KeReleaseSemaphore(&Extension->Queued, IO_NO_INCREMENT, 1, FALSE);
     IoCsqInsertIrp(&Extension->Queue, Irp, NULL);
 #else
     IoCsqInsertIrp(&Extension->Queue, Irp, NULL);
@@ -75,7 +77,8 @@ static NTSTATUS NTAPI Cleanup(PDEVICE_OBJECT DeviceObject, PIRP Irp) {
         Finish(Waiting, STATUS_CANCELLED, 0);
     }
 #if WRONG == 2
-    KeWaitForSingleObject(&Extension->Mutex, Executive, KernelMode, FALSE, NULL); /* and it isn't released */
+    /* And then it isn't released. */
+    KeWaitForSingleObject(&Extension->Mutex, Executive, KernelMode, FALSE, NULL);
 #endif
     return Succeed(DeviceObject, Irp);
 }
@@ -103,8 +106,8 @@ NTSTATUS NTAPI DriverEntry(PDRIVER_OBJECT DriverObject, PUNICODE_STRING Registry
     KeInitializeMutex(&Extension->Mutex, 0);
     KeInitializeSemaphore(&Extension->Queued, 0, WRONG == 1 ? 4 : MAXLONG);
     KeInitializeEvent(&Extension->Stop, NotificationEvent, FALSE);
-    IoCsqInitialize(&Extension->Queue, InsertCounted, RemoveWaiting, PeekCounted, LockMutex, UnlockMutex,
-                    CompleteWaiting);
+    IoCsqInitialize(&Extension->Queue, InsertCounted, RemoveWaiting, PeekCounted, LockMutex,
+                    UnlockMutex, CompleteWaiting);
     DriverObject->DriverUnload = Unload;
     DriverObject->MajorFunction[IRP_MJ_READ] = Read;
     DriverObject->MajorFunction[IRP_MJ_WRITE] = Succeed;
@@ -114,7 +117,8 @@ NTSTATUS NTAPI DriverEntry(PDRIVER_OBJECT DriverObject, PUNICODE_STRING Registry
         IoDeleteDevice(DeviceObject);
         return Status;
     }
-    ObReferenceObjectByHandle(Thread, THREAD_ALL_ACCESS, NULL, KernelMode, &Extension->Thread, NULL);
+    ObReferenceObjectByHandle(Thread, THREAD_ALL_ACCESS, NULL, KernelMode, &Extension->Thread,
+                              NULL);
     ZwClose(Thread);
     return STATUS_SUCCESS;
 }

@@ -1,5 +1,5 @@
-/* Completion routines: a filter device passes all on to the device that it is attached to, and counts the reads that
- * are under way below. That device has the queue. */
+/* Completion routines: a filter device passes all on to the device that it is attached to, and
+ * counts the reads that are under way below. That device has the queue. */
 #include "waiting.h"
 
 typedef struct _EXTENSION {

@@ -1,6 +1,6 @@
-/* IRPs that one thread removes and another puts back: a write takes the oldest IRP out and hands it to a work item, which
- * serves each other one and lets the rest wait again, as the last. A device control waits with an insert context, and
- * goes back with it; there is one at a time. */
+/* IRPs that one thread removes and another puts back: a write takes the oldest IRP out and hands it
+ * to a work item, which serves each other one and lets the rest wait again, as the last. A device
+ * control waits with an insert context, and goes back with it; there is one at a time. */
 #include "waiting.h"
 
 typedef struct _EXTENSION {
@@ -8,8 +8,10 @@ typedef struct _EXTENSION {
     LIST_ENTRY Handed; /* to the work item; under HandedLock */
     KSPIN_LOCK HandedLock;
     PIO_WORKITEM Item;
-    LONG Queued;  /* whether the work item is, or has yet to look at Handed; with the next three by interlocked calls */
-    LONG Users;   /* 1 for the device, and 1 for each time that the work item was queued and hasn't ended */
+    LONG Queued;  /* whether the work item is, or has yet to look at Handed; with the next three by
+                   * interlocked calls */
+    LONG Users;   /* 1 for the device, and 1 for each time that the work item was queued and hasn't
+                   * ended */
     LONG Control; /* whether a device control is under way */
     LONG Turn;
     KEVENT Unused; /* signaled once there are no users */
@@ -39,8 +41,8 @@ static VOID NTAPI CompleteCanceled(PIO_CSQ Csq, PIRP Irp) {
 
 /* For the first time, or again. */
 static NTSTATUS Insert(PEXTENSION Extension, PIRP Irp) {
-    NTSTATUS Status =
-        IoCsqInsertIrpEx(&Extension->Irps.Queue, Irp, IsControl(Irp) ? &Extension->Context : NULL, NULL);
+    NTSTATUS Status = IoCsqInsertIrpEx(&Extension->Irps.Queue, Irp,
+                                       IsControl(Irp) ? &Extension->Context : NULL, NULL);
     if (!NT_SUCCESS(Status)) {
         Complete(Irp, Status);
     }

@@ -1,4 +1,5 @@
-/* What the callbacks of handed.c mean is the usual; reads and device controls wait for a write, and perhaps once more. */
+/* What the callbacks of handed.c mean is the usual; reads and device controls wait for a write, and
+ * perhaps once more. */
 #include "iocsq_test.h"
 
 static BOOLEAN Waits(PIRP Irp) {

@@ -1,4 +1,5 @@
-/* Contexts of the driver's own: a peek context names a file object, or none, and a key, which is a read's length. */
+/* Contexts of the driver's own: a peek context names a file object, or none, and a key, which is a
+ * read's length. */
 #include "waiting.h"
 
 typedef struct _WANTED {
@@ -16,8 +17,8 @@ static ULONG KeyOf(PIRP Irp) {
 
 BOOLEAN IsWanted(PIRP Irp, PVOID PeekContext) {
     PWANTED Wanted = PeekContext;
-    return Wanted == NULL ||
-           ((Wanted->File == NULL || Wanted->File == FileOf(Irp)) && (Wanted->Key == 0 || Wanted->Key == KeyOf(Irp)));
+    return Wanted == NULL || ((Wanted->File == NULL || Wanted->File == FileOf(Irp)) &&
+                              (Wanted->Key == 0 || Wanted->Key == KeyOf(Irp)));
 }
 
 static PIRP NTAPI PeekWanted(PIO_CSQ Csq, PIRP Irp, PVOID PeekContext) {
@@ -26,7 +27,8 @@ static PIRP NTAPI PeekWanted(PIO_CSQ Csq, PIRP Irp, PVOID PeekContext) {
     for (; Entry != Head; Entry = Entry->Flink) {
         PIRP Next = CONTAINING_RECORD(Entry, IRP, Tail.Overlay.ListEntry);
 #if WRONG == 1
-        if (PeekContext == NULL || ((PWANTED)PeekContext)->Key == 0 || ((PWANTED)PeekContext)->Key == KeyOf(Next)) {
+        if (PeekContext == NULL || ((PWANTED)PeekContext)->Key == 0 ||
+            ((PWANTED)PeekContext)->Key == KeyOf(Next)) {
             return Next; /* of whatever file object */
         }
 #elif WRONG == 2
@@ -88,8 +90,8 @@ NTSTATUS NTAPI DriverEntry(PDRIVER_OBJECT DriverObject, PUNICODE_STRING Registry
     Extension = DeviceObject->DeviceExtension;
     InitializeListHead(&Extension->Reads.Irps);
     KeInitializeSpinLock(&Extension->Reads.Lock);
-    IoCsqInitializeEx(&Extension->Reads.Queue, InsertWaiting, RemoveWaiting, PeekWanted, LockWaiting, UnlockWaiting,
-                      CompleteWaiting);
+    IoCsqInitializeEx(&Extension->Reads.Queue, InsertWaiting, RemoveWaiting, PeekWanted,
+                      LockWaiting, UnlockWaiting, CompleteWaiting);
     DriverObject->DriverUnload = Unload;
     DriverObject->MajorFunction[IRP_MJ_READ] = Read;
     DriverObject->MajorFunction[IRP_MJ_WRITE] = Write;

@@ -1,5 +1,6 @@
-/* Cancelled IRPs are completed later: what the device does for one has to be stopped at PASSIVE_LEVEL, so
- * CsqCompleteCanceledIrp puts it aside, and a work item completes what lies there. */
+/* Cancelled IRPs are completed later: what the device does for one has to be stopped at
+ * PASSIVE_LEVEL, so CsqCompleteCanceledIrp puts it aside, and a work item completes what lies
+ * there. */
 #include "waiting.h"
 
 typedef struct _EXTENSION {
@@ -38,7 +39,8 @@ static VOID NTAPI CompleteThem(PDEVICE_OBJECT DeviceObject, PVOID Context) {
 }
 
 static VOID NTAPI CompleteLater(PIO_CSQ Csq, PIRP Irp) {
-    PEXTENSION Extension = CONTAINING_RECORD(CONTAINING_RECORD(Csq, WAITING, Queue), EXTENSION, Reads);
+    PEXTENSION Extension =
+        CONTAINING_RECORD(CONTAINING_RECORD(Csq, WAITING, Queue), EXTENSION, Reads);
     KIRQL Irql;
     KeAcquireSpinLock(&Extension->Lock, &Irql);
     InsertTailList(&Extension->Cancelled, &Irp->Tail.Overlay.ListEntry);

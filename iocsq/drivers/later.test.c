@@ -1,4 +1,5 @@
-/* What the callbacks of later.c mean: a cancelled IRP is completed after its callback. Reads wait for a write. */
+/* What the callbacks of later.c mean: a cancelled IRP is completed after its callback. Reads wait
+ * for a write. */
 #include "iocsq_test.h"
 
 static BOOLEAN Waits(PIRP Irp) {

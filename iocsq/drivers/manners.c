@@ -1,6 +1,6 @@
-/* What a driver owes the I/O manager beside its queue: it leaves an IRP alone that it queued or completed, says no more
- * bytes than there are, answers what it completed with, takes its locks in one order, refuses before it empties, and
- * completes an IRP in one thread. */
+/* What a driver owes the I/O manager beside its queue: it leaves an IRP alone that it queued or
+ * completed, says no more bytes than there are, answers what it completed with, takes its locks in
+ * one order, refuses before it empties, and completes an IRP in one thread. */
 #include "waiting.h"
 
 typedef struct _EXTENSION {

@@ -1,4 +1,5 @@
-/* A remove lock: each IRP that waits has it until it was completed, so the device isn't deleted before. */
+/* A remove lock: each IRP that waits has it until it was completed, so the device isn't deleted
+ * before. */
 #include "waiting.h"
 
 typedef struct _EXTENSION {

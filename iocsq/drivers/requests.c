@@ -1,9 +1,11 @@
-/* IRPs of the driver's own: a write sends one to a lower device for the oldest read, whose completion routine completes
- * that read. The lower device keeps it in a queue until the next write. */
+/* IRPs of the driver's own: a write sends one to a lower device for the oldest read, whose
+ * completion routine completes that read. The lower device keeps it in a queue until the next
+ * write. */
 #include "waiting.h"
 
 typedef struct _EXTENSION {
-    WAITING Irps; /* of the upper device the reads that wait, of the lower one the driver's own IRPs */
+    WAITING Irps; /* of the upper device the reads that wait, of the lower one the driver's own
+                   * IRPs */
     PDEVICE_OBJECT Lower;
 } EXTENSION, *PEXTENSION;
 

@@ -1,4 +1,5 @@
-/* What the callbacks of requests.c mean is the usual; reads wait for a write, and for the next one. */
+/* What the callbacks of requests.c mean is the usual; reads wait for a write, and for the next
+ * one. */
 #include "iocsq_test.h"
 
 static BOOLEAN Waits(PIRP Irp) {

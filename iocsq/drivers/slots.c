@@ -1,6 +1,6 @@
-/* A driver in an unusual style: the IRPs wait in an array, the last first; the lock is two locks, and the IRQL is kept
- * beside them; each file object has a queue of its own, in memory of the pool; reads are marked pending before they are
- * queued. */
+/* A driver in an unusual style: the IRPs wait in an array, the last first; the lock is two locks,
+ * and the IRQL is kept beside them; each file object has a queue of its own, in memory of the pool;
+ * reads are marked pending before they are queued. */
 #include <ntddk.h>
 #include <csq.h>
 
@@ -103,7 +103,8 @@ static NTSTATUS NTAPI Create(PDEVICE_OBJECT DeviceObject, PIRP Irp) {
     RtlZeroMemory(Slots, sizeof(SLOTS));
     KeInitializeSpinLock(&Slots->Outer);
     KeInitializeSpinLock(&Slots->Inner);
-    IoCsqInitializeEx(&Slots->Queue, InsertSlot, RemoveSlot, PeekSlot, LockSlots, UnlockSlots, CompleteCanceled);
+    IoCsqInitializeEx(&Slots->Queue, InsertSlot, RemoveSlot, PeekSlot, LockSlots, UnlockSlots,
+                      CompleteCanceled);
     IoGetCurrentIrpStackLocation(Irp)->FileObject->FsContext2 = Slots;
     return Finish(Irp, STATUS_SUCCESS);
 }

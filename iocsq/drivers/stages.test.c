@@ -1,4 +1,5 @@
-/* What the callbacks of stages.c mean: an insert context puts an IRP first. Reads wait for a write. */
+/* What the callbacks of stages.c mean: an insert context puts an IRP first. Reads wait for a
+ * write. */
 #include "iocsq_test.h"
 
 static int Place(PIRP Irp, PVOID InsertContext) {

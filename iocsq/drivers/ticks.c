@@ -11,7 +11,8 @@ typedef struct _EXTENSION {
 } EXTENSION, *PEXTENSION;
 
 static KDEFERRED_ROUTINE Tick;
-static VOID NTAPI Tick(PKDPC Dpc, PVOID DeferredContext, PVOID SystemArgument1, PVOID SystemArgument2) {
+static VOID NTAPI Tick(PKDPC Dpc, PVOID DeferredContext, PVOID SystemArgument1,
+                       PVOID SystemArgument2) {
     PEXTENSION Extension = DeferredContext;
     PIRP Oldest;
     UNREFERENCED_PARAMETER(Dpc);
@@ -68,7 +69,8 @@ NTSTATUS NTAPI DriverEntry(PDRIVER_OBJECT DriverObject, PUNICODE_STRING Registry
     KeInitializeDpc(&Extension->Dpc, Tick, Extension);
     KeInitializeTimer(&Extension->Timer);
     First.QuadPart = -10000;
-    KeSetTimerEx(&Extension->Timer, First, WRONG == 4 ? 0 : TICK_IN_MILLISECONDS, &Extension->Dpc); /* 0: once alone */
+    /* A period of 0: once alone. */
+    KeSetTimerEx(&Extension->Timer, First, WRONG == 4 ? 0 : TICK_IN_MILLISECONDS, &Extension->Dpc);
     DriverObject->DriverUnload = Unload;
     DriverObject->MajorFunction[IRP_MJ_READ] = Read;
     DriverObject->MajorFunction[IRP_MJ_WRITE] = Succeed;

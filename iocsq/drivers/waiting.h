@@ -1,5 +1,6 @@
-/* What the drivers of this folder share that show one thing each: a queue of IRPs in the order in which they came, but
- * for those that are put in front, one lock, and the usual peek context (any IRP, or one of a file object). */
+/* What the drivers of this folder share that show one thing each: a queue of IRPs in the order in
+ * which they came, but for those that are put in front, one lock, and the usual peek context (any
+ * IRP, or one of a file object). */
 #ifndef WAITING_H
 #define WAITING_H
 #include <ntddk.h>
@@ -73,7 +74,8 @@ static inline VOID NTAPI CompleteWaiting(PIO_CSQ Csq, PIRP Irp) {
 static inline VOID InitializeWaiting(PWAITING Waiting, PIO_CSQ_COMPLETE_CANCELED_IRP Complete) {
     InitializeListHead(&Waiting->Irps);
     KeInitializeSpinLock(&Waiting->Lock);
-    IoCsqInitializeEx(&Waiting->Queue, InsertWaiting, RemoveWaiting, PeekWaiting, LockWaiting, UnlockWaiting, Complete);
+    IoCsqInitializeEx(&Waiting->Queue, InsertWaiting, RemoveWaiting, PeekWaiting, LockWaiting,
+                      UnlockWaiting, Complete);
 }
 
 /* Queues an IRP, and answers what its dispatch routine has to. */
@@ -116,11 +118,13 @@ static inline NTSTATUS NTAPI Succeed(PDEVICE_OBJECT DeviceObject, PIRP Irp) {
 }
 
 /* Fills in what the drivers have in common. */
-static inline NTSTATUS MakeDevice(PDRIVER_OBJECT DriverObject, ULONG ExtensionSize, PDEVICE_OBJECT *DeviceObject) {
+static inline NTSTATUS MakeDevice(PDRIVER_OBJECT DriverObject, ULONG ExtensionSize,
+                                  PDEVICE_OBJECT *DeviceObject) {
     NTSTATUS Status;
     DriverObject->MajorFunction[IRP_MJ_CREATE] = Succeed;
     DriverObject->MajorFunction[IRP_MJ_CLOSE] = Succeed;
-    Status = IoCreateDevice(DriverObject, ExtensionSize, NULL, FILE_DEVICE_UNKNOWN, 0, FALSE, DeviceObject);
+    Status = IoCreateDevice(DriverObject, ExtensionSize, NULL, FILE_DEVICE_UNKNOWN, 0, FALSE,
+                            DeviceObject);
     if (NT_SUCCESS(Status)) {
         (*DeviceObject)->Flags |= DO_BUFFERED_IO;
     }

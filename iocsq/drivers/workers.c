@@ -1,11 +1,13 @@
-/* A work item: it completes the reads that a dispatch routine has queued. It is queued at most once at a time. */
+/* A work item: it completes the reads that a dispatch routine has queued. It is queued at most once
+ * at a time. */
 #include "waiting.h"
 
 typedef struct _EXTENSION {
     WAITING Reads;
     PIO_WORKITEM WorkItem;
     BOOLEAN Queued; /* the work item is; under Reads.Lock */
-    LONG Users;     /* 1 for the device, and 1 for each time that the work item was queued and hasn't run */
+    LONG Users;     /* 1 for the device, and 1 for each time that the work item was queued and
+                     * hasn't run */
     KEVENT Unused;  /* signaled once there are none */
 } EXTENSION, *PEXTENSION;
 
@@ -31,9 +33,11 @@ static VOID NTAPI Work(PDEVICE_OBJECT DeviceObject, PVOID Context) {
     PEXTENSION Extension = Context;
     PIRP Irp;
     UNREFERENCED_PARAMETER(DeviceObject);
-    Leave(Extension); /* it isn't queued any more, and until it returns it keeps the device, which may be deleted */
+    Leave(Extension); /* it isn't queued any more, and until it returns it keeps the device, which
+                       * may be deleted */
 #if WRONG != 3
-    SetQueued(Extension, FALSE); /* before the loop: what comes after it queues the work item again */
+    SetQueued(Extension, FALSE); /* before the loop: what comes after it queues the work item
+                                  * again */
 #endif
     while ((Irp = IoCsqRemoveNextIrp(&Extension->Reads.Queue, NULL)) != NULL) {
         Finish(Irp, STATUS_SUCCESS, 1);

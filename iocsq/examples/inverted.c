@@ -1,10 +1,12 @@
 /*
- * The inverted call: a program can't be called by a driver, so it calls the driver first. It sends a device control
- * (IOCTL_WAIT_FOR_EVENT) that the driver keeps, and the driver completes it when there is something to report. Here
- * another device control (IOCTL_RAISE_EVENT) is what happens; in a real driver it would be an interrupt.
+ * The inverted call: a program can't be called by a driver, so it calls the driver first. It sends
+ * a device control (IOCTL_WAIT_FOR_EVENT) that the driver keeps, and the driver completes it when
+ * there is something to report. Here another device control (IOCTL_RAISE_EVENT) is what happens; in
+ * a real driver it would be an interrupt.
  *
- * What is difficult: an event may come while no call waits, and a call may come while no event is there. Whoever comes
- * second has to find the first. So both sides put down what they bring, and then look for a pair (Deliver).
+ * What is difficult: an event may come while no call waits, and a call may come while no event is
+ * there. The one that comes second has to find the first. So both sides put down what they bring,
+ * and then look for a pair (Deliver).
  */
 #include "irp_queue.h"
 
@@ -16,7 +18,8 @@ typedef struct _EXTENSION {
     IRP_QUEUE Calls; /* that wait; under QueueLock */
     KSPIN_LOCK QueueLock;
     KSPIN_LOCK EventLock; /* taken before QueueLock */
-    UCHAR Events[MOST_EVENTS]; /* that no call has reported yet, the oldest first; with their count under EventLock */
+    UCHAR Events[MOST_EVENTS]; /* that no call has reported yet, the oldest first; with their count
+                                * under EventLock */
     ULONG EventCount;
 } EXTENSION, *PEXTENSION;
 
@@ -38,7 +41,8 @@ BOOLEAN MayWait(PIRP Irp) {
 }
 
 /* ---- Pairs of an event and a call ---- */
-/* Takes the oldest event and call, if there are both. Under EventLock, so that no two threads each take a half. */
+/* Takes the oldest event and call, if there are both. Under EventLock, so that no two threads each
+ * take a half. */
 static PIRP TakePair(PEXTENSION Extension, PUCHAR Event) {
     KIRQL Irql;
     PIRP Call = NULL;
@@ -67,7 +71,8 @@ static VOID Deliver(PEXTENSION Extension) {
 
 static NTSTATUS WaitForEvent(PEXTENSION Extension, PIRP Irp) {
     NTSTATUS Status;
-    if (IoGetCurrentIrpStackLocation(Irp)->Parameters.DeviceIoControl.OutputBufferLength < sizeof(UCHAR)) {
+    if (IoGetCurrentIrpStackLocation(Irp)->Parameters.DeviceIoControl.OutputBufferLength <
+        sizeof(UCHAR)) {
         return Finish(Irp, STATUS_BUFFER_TOO_SMALL, 0);
     }
     Status = Enqueue(&Extension->Calls, Irp, NULL);
@@ -81,7 +86,8 @@ static NTSTATUS RaiseEvent(PEXTENSION Extension, PIRP Irp) {
     NTSTATUS Status = STATUS_SUCCESS;
     KIRQL Irql;
     KeAcquireSpinLock(&Extension->EventLock, &Irql);
-    if (IoGetCurrentIrpStackLocation(Irp)->Parameters.DeviceIoControl.InputBufferLength < sizeof(UCHAR)) {
+    if (IoGetCurrentIrpStackLocation(Irp)->Parameters.DeviceIoControl.InputBufferLength <
+        sizeof(UCHAR)) {
         Status = STATUS_BUFFER_TOO_SMALL;
     } else if (Extension->EventCount == MOST_EVENTS) {
         Status = STATUS_INSUFFICIENT_RESOURCES; /* who raises it hears that nobody listens */
@@ -113,7 +119,8 @@ static NTSTATUS NTAPI DispatchCleanup(PDEVICE_OBJECT DeviceObject, PIRP Irp) {
     PEXTENSION Extension = DeviceObject->DeviceExtension;
     KIRQL Irql;
     KeAcquireSpinLock(&Extension->QueueLock, &Irql);
-    FileOf(Irp)->FsContext = Extension; /* from now on no call is queued, and then the queue is emptied */
+    FileOf(Irp)->FsContext = Extension; /* from now on no call is queued, and then the queue is
+                                         * emptied */
     KeReleaseSpinLock(&Extension->QueueLock, Irql);
     CompleteAll(&Extension->Calls, FileOf(Irp), STATUS_CANCELLED);
     return Finish(Irp, STATUS_SUCCESS, 0);
@@ -127,7 +134,8 @@ DRIVER_INITIALIZE DriverEntry;
 NTSTATUS NTAPI DriverEntry(PDRIVER_OBJECT DriverObject, PUNICODE_STRING RegistryPath) {
     PDEVICE_OBJECT Device;
     PEXTENSION Extension;
-    NTSTATUS Status = IoCreateDevice(DriverObject, sizeof(EXTENSION), NULL, FILE_DEVICE_UNKNOWN, 0, FALSE, &Device);
+    NTSTATUS Status = IoCreateDevice(DriverObject, sizeof(EXTENSION), NULL, FILE_DEVICE_UNKNOWN, 0,
+                                     FALSE, &Device);
     UNREFERENCED_PARAMETER(RegistryPath);
     if (!NT_SUCCESS(Status)) {
         return Status;

@@ -1,13 +1,16 @@
 /*
- * A named pipe: two file objects are its ends, and what one writes the other reads, a message at a time. When one is
- * closed the pipe is broken: what waits at the other end is completed with STATUS_PIPE_BROKEN.
+ * A named pipe: two file objects are its ends, and what one writes the other reads, a message at a
+ * time. When one is closed the pipe is broken: what waits at the other end is completed with
+ * STATUS_PIPE_BROKEN.
  *
- * A read and a write have to meet, whichever comes first, and either may be cancelled as they do. So each waits in a
- * queue of its own, and TakeBoth takes one of each. A read that it gets without a write it puts back in front.
+ * A read and a write have to meet, whichever comes first, and either may be cancelled as they do.
+ * So each waits in a queue of its own, and TakeBoth takes one of each. A read that it gets without
+ * a write it puts back in front.
  *
- * A pipe has to stay for as long as anything of it is used. Its queues are used by cancel routines too, which may come
- * late. Each file object has a reference to its pipe until IRP_MJ_CLOSE, which comes once all of its IRPs are
- * completed; and so has a dispatch routine that goes on after it has queued its IRP.
+ * A pipe has to stay for as long as anything of it is used. Its queues are used by cancel routines
+ * too, which may come late. Each file object has a reference to its pipe until IRP_MJ_CLOSE, which
+ * comes once all of its IRPs are completed; and so has a dispatch routine that goes on after it has
+ * queued its IRP.
  */
 #include "irp_queue.h"
 
@@ -47,7 +50,8 @@ BOOLEAN IsWanted(PIRP Irp, PVOID PeekContext) {
     return PeekContext == NULL;
 }
 
-/* A test asks this, where nothing else happens: whether a read or a write may wait on, since the other end has none. */
+/* A test asks this, where nothing else happens: whether a read or a write may wait on, since the
+ * other end has none. */
 BOOLEAN MayWait(PIRP Irp);
 BOOLEAN MayWait(PIRP Irp) {
     PEND Other = EndOf(Irp)->Other;
@@ -56,16 +60,18 @@ BOOLEAN MayWait(PIRP Irp) {
 }
 
 /* ---- A read and a write meet ---- */
-/* Takes the first read of an end and the first write of the other. Under a mutex, so that no two threads each take a
- * half; not under a spin lock, since the read that goes back may be completed: it was cancelled, or the pipe broken
- * (then with STATUS_PIPE_BROKEN, even where its own end is closed). So a completion routine must not send to the same
- * pipe: it would wait for this mutex, which its own thread has. */
+/* Takes the first read of an end and the first write of the other. Under a mutex, so that no two
+ * threads each take a half; not under a spin lock, since the read that goes back may be completed:
+ * it was cancelled, or the pipe broken (then with STATUS_PIPE_BROKEN, even where its own end is
+ * closed). So a completion routine must not send to the same pipe: it would wait for this mutex,
+ * which its own thread has. */
 static BOOLEAN TakeBoth(PEND Reader, PIRP *Read, PIRP *Write) {
     ExAcquireFastMutex(&Reader->Pipe->Meeting);
     *Read = IoCsqRemoveNextIrp(&Reader->Reads.Csq, NULL);
     *Write = *Read != NULL ? IoCsqRemoveNextIrp(&Reader->Other->Writes.Csq, NULL) : NULL;
     if (*Read != NULL && *Write == NULL) {
-        Enqueue(&Reader->Reads, *Read, Reader); /* in front; its dispatch routine answers STATUS_PENDING in any case */
+        Enqueue(&Reader->Reads, *Read, Reader); /* in front; its dispatch routine answers
+                                                 * STATUS_PENDING in any case */
     }
     ExReleaseFastMutex(&Reader->Pipe->Meeting);
     return *Write != NULL;
@@ -123,8 +129,9 @@ static NTSTATUS NTAPI DispatchCreate(PDEVICE_OBJECT DeviceObject, PIRP Irp) {
     return Finish(Irp, End != NULL ? STATUS_SUCCESS : STATUS_INSUFFICIENT_RESOURCES, 0);
 }
 
-/* Queues a read or a write, and looks whether what it waits for is there. Once queued it may be completed, and its file
- * object closed: so the pipe is referenced for as long as it is used here. */
+/* Queues a read or a write, and looks whether what it waits for is there. Once queued it may be
+ * completed, and its file object closed: so the pipe is referenced for as long as it is used
+ * here. */
 static NTSTATUS NTAPI DispatchReadWrite(PDEVICE_OBJECT DeviceObject, PIRP Irp) {
     PEND End = EndOf(Irp);
     BOOLEAN Reads = IoGetCurrentIrpStackLocation(Irp)->MajorFunction == IRP_MJ_READ;
@@ -171,7 +178,8 @@ static VOID NTAPI Unload(PDRIVER_OBJECT DriverObject) {
 DRIVER_INITIALIZE DriverEntry;
 NTSTATUS NTAPI DriverEntry(PDRIVER_OBJECT DriverObject, PUNICODE_STRING RegistryPath) {
     PDEVICE_OBJECT Device;
-    NTSTATUS Status = IoCreateDevice(DriverObject, sizeof(EXTENSION), NULL, FILE_DEVICE_UNKNOWN, 0, FALSE, &Device);
+    NTSTATUS Status = IoCreateDevice(DriverObject, sizeof(EXTENSION), NULL, FILE_DEVICE_UNKNOWN, 0,
+                                     FALSE, &Device);
     UNREFERENCED_PARAMETER(RegistryPath);
     if (!NT_SUCCESS(Status)) {
         return Status;

@@ -1,5 +1,5 @@
-/* What the callbacks of pipe.c mean: an insert context puts an IRP first. A read waits for a write of the
- * other end, and a write for a read. */
+/* What the callbacks of pipe.c mean: an insert context puts an IRP first. A read waits for a write
+ * of the other end, and a write for a read. */
 #include "iocsq_test.h"
 
 BOOLEAN MayWait(PIRP Irp);

@@ -1,21 +1,25 @@
 /*
- * A serial port whose transmitter is wired to its receiver: what is written comes back to be read. A write waits until
- * the transmitter has sent it, which it does once the receiver has room: until then the write is put back in front of
- * the others. Reads wait until they are full, or until their time is over:
+ * A serial port whose transmitter is wired to its receiver: what is written comes back to be read.
+ * A write waits until the transmitter has sent it, which it does once the receiver has room: until
+ * then the write is put back in front of the others. Reads wait until they are full, or until their
+ * time is over:
  *
- * - the interval: no byte came for so long after the last one. The oldest read is completed with what there is.
- * - the total time: a constant, and so much for each byte that was asked for (ReadTotalTimeoutConstant and
- *   ReadTotalTimeoutMultiplier of a real port). The read is completed with STATUS_TIMEOUT.
+ * - the interval: no byte came for so long after the last one. The oldest read is completed with
+ *   what there is.
+ * - the total time: a constant, and so much for each byte that was asked for
+ *   (ReadTotalTimeoutConstant and ReadTotalTimeoutMultiplier of a real port). The read is completed
+ *   with STATUS_TIMEOUT.
  *
- * The clock is a timer, and a DPC does what an interrupt's DPC would. So IRPs are removed at DISPATCH_LEVEL by the DPC,
- * and by dispatch routines and cancels at any time.
+ * The clock is a timer, and a DPC does what an interrupt's DPC would. So IRPs are removed at
+ * DISPATCH_LEVEL by the DPC, and by dispatch routines and cancels at any time.
  */
 #include "irp_queue.h"
 
 enum { ROOM = 4, INTERVAL = 2, TOTAL_CONSTANT = 1, TOTAL_MULTIPLIER = 2 }; /* bytes; ticks */
 
 typedef struct _EXTENSION {
-    KSPIN_LOCK Lock; /* of the lists of both queues, of what follows them to LastByte, and of each FsContext */
+    KSPIN_LOCK Lock; /* of the lists of both queues, of what follows them to LastByte, and of each
+                      * FsContext */
     IRP_QUEUE Reads;
     IRP_QUEUE Writes;
     UCHAR Received[ROOM];
@@ -32,14 +36,17 @@ static PEXTENSION PortOf(PIRP Irp) {
 }
 
 static ULONG LengthOf(PIRP Irp) {
-    return IoGetCurrentIrpStackLocation(Irp)->Parameters.Read.Length; /* a write's stands in the same place */
+    /* A write's stands in the same place. */
+    return IoGetCurrentIrpStackLocation(Irp)->Parameters.Read.Length;
 }
 
 /* ---- What the queues ask, under the lock ---- */
-/* Refuses once the cleanup of the file object has begun. Notes when an IRP's time is over, which only reads are asked:
- * DriverContext[0] to [2] are the driver's while it has the IRP, the framework uses [3]. */
+/* Refuses once the cleanup of the file object has begun. Notes when an IRP's time is over, which
+ * only reads are asked: DriverContext[0] to [2] are the driver's while it has the IRP, the
+ * framework uses [3]. */
 static NTSTATUS Admit(PIRP Irp) {
-    ULONG Length = LengthOf(Irp) < ROOM ? LengthOf(Irp) : ROOM; /* for more bytes there is no more time */
+    ULONG Length = LengthOf(Irp) < ROOM ? LengthOf(Irp) : ROOM; /* for more bytes there is no more
+                                                                 * time */
     ULONG Deadline = PortOf(Irp)->Now + TOTAL_CONSTANT + TOTAL_MULTIPLIER * Length;
     Irp->Tail.Overlay.DriverContext[0] = (PVOID)(ULONG_PTR)Deadline;
     return FileOf(Irp)->FsContext == NULL ? STATUS_PENDING : STATUS_FILE_CLOSED;
@@ -50,14 +57,16 @@ static BOOLEAN IsExpired(PIRP Read) {
     return (LONG)(PortOf(Read)->Now - Deadline) >= 0;
 }
 
-/* Bytes belong to the oldest read: it is served once they are as many as it asked for, or no more come. */
+/* Bytes belong to the oldest read: it is served once they are as many as it asked for, or no more
+ * come. */
 static BOOLEAN IsServed(PIRP Read) {
     PEXTENSION Port = PortOf(Read);
     return Read->Tail.Overlay.ListEntry.Blink == &Port->Reads.Irps && Port->Count > 0 &&
            (Port->Count >= LengthOf(Read) || Port->Now - Port->LastByte >= INTERVAL);
 }
 
-/* Peek contexts: the port (reads whose time is over), Received (the read that is served), a file object, null (any). */
+/* Peek contexts: the port (reads whose time is over), Received (the read that is served), a file
+ * object, null (any). */
 BOOLEAN IsWanted(PIRP Irp, PVOID PeekContext) {
     if (PeekContext == PortOf(Irp)) {
         return IsExpired(Irp);
@@ -68,20 +77,23 @@ BOOLEAN IsWanted(PIRP Irp, PVOID PeekContext) {
     return PeekContext == NULL || PeekContext == FileOf(Irp);
 }
 
-/* A test asks this, where nothing else happens: whether an IRP may wait on. A write may, for which the receiver has no
- * room, or before which another one waits so; a read's time is over some time. */
+/* A test asks this, where nothing else happens: whether an IRP may wait on. A write may, for which
+ * the receiver has no room, or before which another one waits so; a read's time is over some
+ * time. */
 BOOLEAN MayWait(PIRP Irp);
 BOOLEAN MayWait(PIRP Irp) {
     PEXTENSION Port = PortOf(Irp);
     PLIST_ENTRY First = Port->Writes.Irps.Flink;
-    PIRP Write = First == &Port->Writes.Irps ? Irp : CONTAINING_RECORD(First, IRP, Tail.Overlay.ListEntry);
+    PIRP Write =
+        First == &Port->Writes.Irps ? Irp : CONTAINING_RECORD(First, IRP, Tail.Overlay.ListEntry);
     ULONG Length = LengthOf(Write) < ROOM ? LengthOf(Write) : ROOM;
-    return IoGetCurrentIrpStackLocation(Irp)->MajorFunction == IRP_MJ_WRITE && Length > ROOM - Port->Count;
+    return IoGetCurrentIrpStackLocation(Irp)->MajorFunction == IRP_MJ_WRITE &&
+           Length > ROOM - Port->Count;
 }
 
 /* ---- The clock: transmitter, receiver, and reads whose time is over ---- */
-/* Sends a write's bytes to the receiver, of a long one as many as it has room for when it is empty. FALSE: there is no
- * room for them now, and none was sent. */
+/* Sends a write's bytes to the receiver, of a long one as many as it has room for when it is empty.
+ * FALSE: there is no room for them now, and none was sent. */
 static BOOLEAN Send(PEXTENSION Port, PIRP Write) {
     ULONG Length = LengthOf(Write) < ROOM ? LengthOf(Write) : ROOM;
     BOOLEAN HasRoom;
@@ -112,9 +124,11 @@ static VOID Receive(PEXTENSION Port, PIRP Read) {
     Finish(Read, STATUS_SUCCESS, Length);
 }
 
-/* The DPC may be queued again, and run on another processor, while it runs. That one only counts the tick: so a write's
- * bytes stand together, and Count is still what IsServed saw when Receive takes the bytes. */
-static VOID NTAPI Tick(PKDPC Dpc, PVOID DeferredContext, PVOID SystemArgument1, PVOID SystemArgument2) {
+/* The DPC may be queued again, and run on another processor, while it runs. That one only counts
+ * the tick: so a write's bytes stand together, and Count is still what IsServed saw when Receive
+ * takes the bytes. */
+static VOID NTAPI Tick(PKDPC Dpc, PVOID DeferredContext, PVOID SystemArgument1,
+                       PVOID SystemArgument2) {
     PEXTENSION Port = DeferredContext;
     PIRP Irp;
     UNREFERENCED_PARAMETER(Dpc);
@@ -128,7 +142,8 @@ static VOID NTAPI Tick(PKDPC Dpc, PVOID DeferredContext, PVOID SystemArgument1, 
     }
     Irp = IoCsqRemoveNextIrp(&Port->Writes.Csq, NULL); /* one write each tick */
     if (Irp != NULL && !Send(Port, Irp)) {
-        Enqueue(&Port->Writes, Irp, Port); /* in front; a cancel that came meanwhile is found by this insert */
+        Enqueue(&Port->Writes, Irp, Port); /* in front; a cancel that came meanwhile is found by
+                                            * this insert */
     }
     while ((Irp = IoCsqRemoveNextIrp(&Port->Reads.Csq, Port->Received)) != NULL) {
         Receive(Port, Irp);
@@ -154,7 +169,8 @@ static NTSTATUS NTAPI DispatchCleanup(PDEVICE_OBJECT DeviceObject, PIRP Irp) {
     PEXTENSION Port = DeviceObject->DeviceExtension;
     KIRQL Irql;
     KeAcquireSpinLock(&Port->Lock, &Irql);
-    FileOf(Irp)->FsContext = Port; /* from now on nothing of it is queued, and then the queues are emptied */
+    FileOf(Irp)->FsContext = Port; /* from now on nothing of it is queued, and then the queues are
+                                    * emptied */
     KeReleaseSpinLock(&Port->Lock, Irql);
     CompleteAll(&Port->Reads, FileOf(Irp), STATUS_CANCELLED);
     CompleteAll(&Port->Writes, FileOf(Irp), STATUS_CANCELLED);
@@ -174,7 +190,8 @@ NTSTATUS NTAPI DriverEntry(PDRIVER_OBJECT DriverObject, PUNICODE_STRING Registry
     LARGE_INTEGER First = { .QuadPart = -10000 }; /* in a millisecond */
     PDEVICE_OBJECT Device;
     PEXTENSION Port;
-    NTSTATUS Status = IoCreateDevice(DriverObject, sizeof(EXTENSION), NULL, FILE_DEVICE_UNKNOWN, 0, FALSE, &Device);
+    NTSTATUS Status = IoCreateDevice(DriverObject, sizeof(EXTENSION), NULL, FILE_DEVICE_UNKNOWN, 0,
+                                     FALSE, &Device);
     UNREFERENCED_PARAMETER(RegistryPath);
     if (!NT_SUCCESS(Status)) {
         return Status;

@@ -1,5 +1,5 @@
-/* What the callbacks of serial.c mean: a peek context of their own, and an insert context puts an IRP first. A
- * write waits for room. */
+/* What the callbacks of serial.c mean: a peek context of their own, and an insert context puts an
+ * IRP first. A write waits for room. */
 #include "iocsq_test.h"
 
 BOOLEAN IsWanted(PIRP Irp, PVOID PeekContext);
@@ -9,4 +9,6 @@ static int Place(PIRP Irp, PVOID InsertContext) {
     return InsertContext != NULL;
 }
 extern const IOCSQ_POLICY DriverPolicy;
-const IOCSQ_POLICY DriverPolicy = { .Match = IsWanted, .Place = Place, .Waits = MayWait, .Within = 100 };
+const IOCSQ_POLICY DriverPolicy = {
+    .Match = IsWanted, .Place = Place, .Waits = MayWait, .Within = 100
+};

@@ -1,6 +1,7 @@
 /*
- * @NAME@: a driver whose reads wait in a cancel-safe queue, until a write of the same file object completes the oldest
- * of them. Put your own dispatch routines in the place of these, and keep the queue's callbacks in their form.
+ * @NAME@: a driver whose reads wait in a cancel-safe queue, until a write of the same file object
+ * completes the oldest of them. Put your own dispatch routines in the place of these, and keep the
+ * queue's callbacks in their form.
  */
 #include <ntddk.h>
 #include <csq.h>
@@ -46,7 +47,8 @@ static PIRP NTAPI PeekWaiting(PIO_CSQ Csq, PIRP Irp, PVOID PeekContext) {
     PLIST_ENTRY Entry = Irp != NULL ? Irp->Tail.Overlay.ListEntry.Flink : Head->Flink;
     for (; Entry != Head; Entry = Entry->Flink) {
         PIRP Next = CONTAINING_RECORD(Entry, IRP, Tail.Overlay.ListEntry);
-        if (PeekContext == NULL || PeekContext == (PVOID)IoGetCurrentIrpStackLocation(Next)->FileObject) {
+        if (PeekContext == NULL ||
+            PeekContext == (PVOID)IoGetCurrentIrpStackLocation(Next)->FileObject) {
             return Next;
         }
     }
@@ -86,7 +88,8 @@ static NTSTATUS NTAPI DispatchRead(PDEVICE_OBJECT DeviceObject, PIRP Irp) {
 
 static NTSTATUS NTAPI DispatchWrite(PDEVICE_OBJECT DeviceObject, PIRP Irp) {
     PEXTENSION Extension = DeviceObject->DeviceExtension;
-    PIRP Read = IoCsqRemoveNextIrp(&Extension->Queue, IoGetCurrentIrpStackLocation(Irp)->FileObject);
+    PIRP Read =
+        IoCsqRemoveNextIrp(&Extension->Queue, IoGetCurrentIrpStackLocation(Irp)->FileObject);
     if (Read != NULL) {
         Finish(Read, STATUS_SUCCESS, 0);
     }
@@ -117,8 +120,8 @@ static VOID NTAPI Unload(PDRIVER_OBJECT DriverObject) {
 NTSTATUS NTAPI DriverEntry(PDRIVER_OBJECT DriverObject, PUNICODE_STRING RegistryPath) {
     PDEVICE_OBJECT DeviceObject;
     PEXTENSION Extension;
-    NTSTATUS Status =
-        IoCreateDevice(DriverObject, sizeof(EXTENSION), NULL, FILE_DEVICE_UNKNOWN, 0, FALSE, &DeviceObject);
+    NTSTATUS Status = IoCreateDevice(DriverObject, sizeof(EXTENSION), NULL, FILE_DEVICE_UNKNOWN, 0,
+                                     FALSE, &DeviceObject);
     UNREFERENCED_PARAMETER(RegistryPath);
     if (!NT_SUCCESS(Status)) {
         return Status;
@@ -127,8 +130,8 @@ NTSTATUS NTAPI DriverEntry(PDRIVER_OBJECT DriverObject, PUNICODE_STRING Registry
     Extension = DeviceObject->DeviceExtension;
     InitializeListHead(&Extension->Waiting);
     KeInitializeSpinLock(&Extension->Lock);
-    IoCsqInitializeEx(&Extension->Queue, InsertWaiting, RemoveWaiting, PeekWaiting, LockWaiting, UnlockWaiting,
-                      CompleteCanceled);
+    IoCsqInitializeEx(&Extension->Queue, InsertWaiting, RemoveWaiting, PeekWaiting, LockWaiting,
+                      UnlockWaiting, CompleteCanceled);
     DriverObject->DriverUnload = Unload;
     DriverObject->MajorFunction[IRP_MJ_CREATE] = DispatchOpen;
     DriverObject->MajorFunction[IRP_MJ_CLOSE] = DispatchOpen;

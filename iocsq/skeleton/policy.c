@@ -1,7 +1,8 @@
 /* What iocsq is to know of @NAME@ beside its code: IOCSQ_POLICY of iocsq_test.h has more. */
 #include "iocsq_test.h"
 
-/* A read may wait for as long as no write comes. What may not wait has to be completed within two seconds. */
+/* A read may wait for as long as no write comes. What may not wait has to be completed within two
+ * seconds. */
 static BOOLEAN Waits(PIRP Irp) {
     return IoGetCurrentIrpStackLocation(Irp)->MajorFunction == IRP_MJ_READ;
 }

@@ -1,4 +1,5 @@
-/* What @NAME@ does in order, one call after the other. The storm looks for what goes wrong between threads. */
+/* What @NAME@ does in order, one call after the other. The storm looks for what goes wrong between
+ * threads. */
 #include "iocsq_test.h"
 
 #include <stdlib.h>

@@ -1,11 +1,12 @@
-/* Every schedule of small scenarios with at most so many preemptions:
+/* Every schedule of small scenarios with at most PREEMPTIONS preemptions:
  *
  *     bounded PREEMPTIONS SCENARIO..             each scenario is a file; the last line sums all up
- *     bounded --depth DEPTH RUNS SCENARIO..      so many runs of each, by priorities that are drawn
- *     bounded --schedule SCHEDULE SCENARIO       this one schedule alone, as the report of a wrong one names it
+ *     bounded --depth DEPTH RUNS SCENARIO..      RUNS runs of each, by priorities that are drawn
+ *     bounded --schedule SCHEDULE SCENARIO       this one schedule alone, as the report of a wrong
+ *                                                one names it
  *
- * It ends with status 0, with that of the first wrong schedule (70 after a report), and with 71 where no scenario
- * inserted anything. 2: an argument or a file is wrong.
+ * It ends with status 0, with that of the first wrong schedule (70 after a report), and with 71
+ * where no scenario inserted anything. 2: an argument or a file is wrong.
  *
  * A scenario, of threads 1 to 3 (a line that begins with # says nothing):
  *
@@ -13,14 +14,16 @@
  *     1 open g               by thread 1
  *     1 read f r             thread 1 reads from f, and the request is named r; a name isn't needed
  *     1 write f              and writes
- *     1 control f 2 s        a device control with the second code of DriverControls (0x222004 is a code itself)
+ *     1 control f 2 s        a device control with the second code of DriverControls (0x222004 is a
+ *                            code itself)
  *     2 cancel r             thread 2 cancels r, once the driver has it
  *     2 wait r               waits until r is completed
  *     3 close f              closes f
  *     3 pause 10             goes on after ten milliseconds
  *
- * A request to a file object that isn't open, or is being closed, isn't sent. In the end all file objects are closed, and the driver is
- * unloaded. Where its policy says which requests may wait (Waits), each has to end before that, as in patient.c.
+ * A request to a file object that isn't open, or is being closed, isn't sent. In the end all file
+ * objects are closed, and the driver is unloaded. Where its policy says which requests may wait
+ * (Waits), each has to end before that, as in patient.c.
  */
 #define _POSIX_C_SOURCE 200809L
 #include "program.h"
@@ -68,7 +71,8 @@ static uint32_t opened_count;
 
 /* ---- The calls ---- */
 static void open_file(const struct call *call) {
-    call->file->object = IocsqOpen(driver); /* null where the driver refuses: it may allow one at a time */
+    call->file->object = IocsqOpen(driver); /* null where the driver refuses: it may allow one at a
+                                             * time */
 }
 
 static void make_known(IOCSQ_REQUEST *sent, PVOID context) {
@@ -77,7 +81,8 @@ static void make_known(IOCSQ_REQUEST *sent, PVOID context) {
     KeSetEvent(&r->known, IO_NO_INCREMENT, FALSE);
 }
 
-/* The file object to which the request may be sent; then it is made known first. Null: it is being closed. */
+/* The file object to which the request may be sent; then it is made known first. Null: it is being
+ * closed. */
 static PFILE_OBJECT begin_request(const struct call *call) {
     PFILE_OBJECT file = call->file->object; /* another thread may close it meanwhile */
     if (!file || !IocsqReference(file)) {
@@ -155,10 +160,14 @@ static const struct verb {
     CALL *make;
     bool file, number, request;
 } verbs[] = {
-    { "open", open_file, true, false, false },      { "close", close_file, true, false, false },
-    { "read", read_file, true, false, true },       { "write", write_file, true, false, true },
-    { "control", control_file, true, true, true },  { "cancel", cancel_request, false, false, true },
-    { "wait", wait_for_request, false, false, true }, { "pause", pause_thread, false, true, false },
+    { "open", open_file, true, false, false },
+    { "close", close_file, true, false, false },
+    { "read", read_file, true, false, true },
+    { "write", write_file, true, false, true },
+    { "control", control_file, true, true, true },
+    { "cancel", cancel_request, false, false, true },
+    { "wait", wait_for_request, false, false, true },
+    { "pause", pause_thread, false, true, false },
 };
 
 struct place {
@@ -380,21 +389,24 @@ static bool explore(const char *path, ULONG preemptions, ULONG64 *schedules) {
     IOCSQ_EXPLORED explored = IocsqExplore(run, NULL, preemptions);
     *schedules += explored.Schedules;
     if (explored.Status == 128 + SIGABRT) {
-        printf("%s: iocsq itself ended schedule %llu\n", path, (unsigned long long)explored.Schedules);
+        printf("%s: iocsq itself ended schedule %llu\n", path,
+               (unsigned long long)explored.Schedules);
         printf("%llu schedules, at most %s, not all run\n", (unsigned long long)*schedules,
                preemptions_of(explored.Preemptions));
         exit(explored.Status);
     }
     if (explored.Status != 0) {
-        printf("%s: schedule %llu is wrong, with %s and none with fewer: --schedule %s shows it again\n", path,
-               (unsigned long long)explored.Schedules, preemptions_of(explored.Preemptions),
+        printf("%s: schedule %llu is wrong, with %s and none with fewer: --schedule %s shows it "
+               "again\n",
+               path, (unsigned long long)explored.Schedules, preemptions_of(explored.Preemptions),
                explored.Schedule[0] ? explored.Schedule : "0:0");
         printf("%llu schedules, at most %s, not all run, 1 wrong\n", (unsigned long long)*schedules,
                preemptions_of(explored.Preemptions));
         exit(explored.Status);
     }
     printf("%s: %llu schedules, %.0f in a second%s\n", path, (unsigned long long)explored.Schedules,
-           (double)explored.Schedules / (seconds() - begun + 1e-9), explored.Inserted ? "" : ", nothing was inserted");
+           (double)explored.Schedules / (seconds() - begun + 1e-9),
+           explored.Inserted ? "" : ", nothing was inserted");
     return explored.Inserted > 0;
 }
 
@@ -428,11 +440,13 @@ static bool draw(const char *path, ULONG depth, ULONG runs) {
     IOCSQ_EXPLORED explored = IocsqDraw(run, NULL, depth, runs);
     if (explored.Status != 0) {
         printf("%s: run %llu of depth %u is wrong: --schedule %s shows it again\n", path,
-               (unsigned long long)(explored.Schedules + explored.Longer + 1), depth, explored.Schedule);
+               (unsigned long long)(explored.Schedules + explored.Longer + 1), depth,
+               explored.Schedule);
         exit(explored.Status);
     }
-    printf("%s: %llu runs of depth %u, %u threads, %u steps: each shows a fault of that depth with a probability of at "
-           "least 1 in %.0f", path, (unsigned long long)explored.Schedules, depth, explored.Threads, explored.Steps,
+    printf("%s: %llu runs of depth %u, %u threads, %u steps: each shows a fault of that depth with "
+           "a probability of at least 1 in %.0f",
+           path, (unsigned long long)explored.Schedules, depth, explored.Threads, explored.Steps,
            one_in(&explored, depth));
     if (explored.Longer) {
         printf("; %llu were longer", (unsigned long long)explored.Longer);

@@ -16,7 +16,8 @@ static void check(int holds, const char *what, int line) {
     }
 }
 #define CHECK(condition) check((condition) != 0, #condition, __LINE__)
-#define RUN(name) (test = #name, name(), failures == 0 ? (void)printf("passed %s\n", test) : (void)0)
+#define RUN(name) \
+    (test = #name, name(), failures == 0 ? (void)printf("passed %s\n", test) : (void)0)
 
 static inline void begin(int argc, char **argv) {
     IocsqLimit(100);

@@ -1,5 +1,6 @@
-/* What IocsqCoverage names, with the skeleton's driver: coverage nothing|completed|cancelled|both [never]. The first says
- * what happens to the reads; with `never` the policy says that the driver does no more than that. */
+/* What IocsqCoverage names, with the skeleton's driver: coverage nothing|completed|cancelled|both
+ * [never]. The first says what happens to the reads; with `never` the policy says that the driver
+ * does no more than that. */
 #include "iocsq_test.h"
 
 #include <stdio.h>

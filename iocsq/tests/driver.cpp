@@ -1,5 +1,5 @@
-/* A driver in C++: reads wait in a cancel-safe queue until a write of their file object, or until its cleanup. Its file
- * objects' state has a class, and the lock is taken by one. */
+/* A driver in C++: reads wait in a cancel-safe queue until a write of their file object, or until
+ * its cleanup. Its file objects' state has a class, and the lock is taken by one. */
 #include <ntddk.h>
 #include <csq.h>
 
@@ -24,7 +24,9 @@ struct Extension {
     KSPIN_LOCK Lock;
 
     static Extension *Of(PIO_CSQ Csq) { return CONTAINING_RECORD(Csq, Extension, Queue); }
-    static Extension *Of(PDEVICE_OBJECT Device) { return static_cast<Extension *>(Device->DeviceExtension); }
+    static Extension *Of(PDEVICE_OBJECT Device) {
+        return static_cast<Extension *>(Device->DeviceExtension);
+    }
 };
 
 PFILE_OBJECT FileOf(PIRP Irp) {
@@ -111,7 +113,8 @@ VOID NTAPI Unload(PDRIVER_OBJECT Driver) {
 extern "C" DRIVER_INITIALIZE DriverEntry;
 extern "C" NTSTATUS NTAPI DriverEntry(PDRIVER_OBJECT Driver, PUNICODE_STRING) {
     PDEVICE_OBJECT Device;
-    NTSTATUS Status = IoCreateDevice(Driver, sizeof(Extension), nullptr, FILE_DEVICE_UNKNOWN, 0, FALSE, &Device);
+    NTSTATUS Status =
+        IoCreateDevice(Driver, sizeof(Extension), nullptr, FILE_DEVICE_UNKNOWN, 0, FALSE, &Device);
     if (!NT_SUCCESS(Status)) {
         return Status;
     }
@@ -119,8 +122,8 @@ extern "C" NTSTATUS NTAPI DriverEntry(PDRIVER_OBJECT Driver, PUNICODE_STRING) {
     Extension *Extended = Extension::Of(Device);
     InitializeListHead(&Extended->Waiting);
     KeInitializeSpinLock(&Extended->Lock);
-    IoCsqInitializeEx(&Extended->Queue, InsertWaiting, RemoveWaiting, PeekWaiting, LockWaiting, UnlockWaiting,
-                      CompleteCanceled);
+    IoCsqInitializeEx(&Extended->Queue, InsertWaiting, RemoveWaiting, PeekWaiting, LockWaiting,
+                      UnlockWaiting, CompleteCanceled);
     Driver->DriverUnload = Unload;
     Driver->MajorFunction[IRP_MJ_CREATE] = DispatchOpen;
     Driver->MajorFunction[IRP_MJ_CLOSE] = DispatchOpen;

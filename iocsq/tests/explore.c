@@ -1,5 +1,6 @@
-/* The bounded mode by itself: threads that do nothing but let others come between. How many schedules there are is
- * counted here in another way, by who can go on at each point: explore THREADS POINTS PREEMPTIONS. */
+/* The bounded mode by itself: threads that do nothing but let others come between. How many
+ * schedules there are is counted here in another way, by who can go on at each point: explore
+ * THREADS POINTS PREEMPTIONS. */
 #include "iocsq_test.h"
 
 #include <stdio.h>
@@ -26,8 +27,9 @@ static void run(void *context) {
     IocsqJoinAll(started, (ULONG)threads);
 }
 
-/* The schedules from here on, of threads with so many points left (-1: it has ended), where `running` goes on or is
- * preempted; -1: nobody runs, and whoever goes on does so for nothing. */
+/* The schedules from here on, of threads with this many points left (-1: it has ended), where
+ * `running` goes on or is preempted; -1: nobody runs, and the one that goes on does so for
+ * nothing. */
 static unsigned long long count(const int *left, int running, int preemptions) {
     unsigned long long sum = 0;
     int over = 1;
@@ -58,6 +60,7 @@ int main(int argc, char **argv) {
     unsigned long long expected = count(left, -1, preemptions);
     IocsqBounded();
     IOCSQ_EXPLORED explored = IocsqExplore(run, NULL, (ULONG)preemptions);
-    printf("%llu schedules of %llu, status %d\n", (unsigned long long)explored.Schedules, expected, explored.Status);
+    printf("%llu schedules of %llu, status %d\n", (unsigned long long)explored.Schedules, expected,
+           explored.Status);
     return explored.Schedules == expected && explored.Status == 0 ? 0 : 1;
 }

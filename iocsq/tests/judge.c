@@ -1,5 +1,5 @@
-/* The judgement of a peek's answer, over each list of four IRPs, each set of matches, each place to go on from and each
- * answer: compared with what the words of judge.h say of a list. */
+/* The judgement of a peek's answer, over each list of four IRPs, each set of matches, each place to
+ * go on from and each answer: compared with what the words of judge.h say of a list. */
 #include "judge.h"
 
 #include <stdio.h>
@@ -36,14 +36,18 @@ static uint32_t first_match(const struct list *list, uint32_t after) {
 }
 
 /* The judgement as judge.h words it. */
-static bool is_right(const struct list *list, uint32_t after, uint32_t answer, struct iocsq_judgement got) {
-    uint32_t at = answer == IOCSQ_NONE ? 0 : position(list, answer), expected = first_match(list, after);
+static bool is_right(const struct list *list, uint32_t after, uint32_t answer,
+                     struct iocsq_judgement got) {
+    uint32_t at = answer == IOCSQ_NONE ? 0 : position(list, answer),
+             expected = first_match(list, after);
     switch (got.verdict) {
     case CSQ_PEEK_AGREES: return answer == expected;
     case CSQ_PEEK_NOT_LISTED: return answer != IOCSQ_NONE && at == 0;
     case CSQ_PEEK_NO_MATCH: return at > 0 && !list->match[answer];
     case CSQ_PEEK_BACKWARDS: return at > 0 && list->match[answer] && at <= after;
-    default: return got.skipped == expected && expected != answer && (answer == IOCSQ_NONE || at > after);
+    default:
+        return got.skipped == expected && expected != answer &&
+               (answer == IOCSQ_NONE || at > after);
     }
 }
 
@@ -54,7 +58,8 @@ static void judge_answer(const struct list *list, uint32_t after, uint32_t answe
     judged++;
     if (!is_right(list, after, answer, got)) {
         wrong++;
-        printf("judge: of the answer %u after place %u: verdict %d\n", answer, after, (int)got.verdict);
+        printf("judge: of the answer %u after place %u: verdict %d\n", answer, after,
+               (int)got.verdict);
     }
 }
 

@@ -29,7 +29,8 @@ static void events(void) {
 static void mutexes(void) {
     KMUTEX mutex;
     KeInitializeMutex(&mutex, 0);
-    CHECK(wait_for(&mutex, 0) == STATUS_SUCCESS && wait_for(&mutex, 0) == STATUS_SUCCESS); /* twice by its owner */
+    /* Twice by its owner. */
+    CHECK(wait_for(&mutex, 0) == STATUS_SUCCESS && wait_for(&mutex, 0) == STATUS_SUCCESS);
     KeReleaseMutex(&mutex, FALSE);
     KeReleaseMutex(&mutex, FALSE);
     CHECK(mutex.OwnerThread == 0);
@@ -42,11 +43,14 @@ static void several_objects(void) {
     LARGE_INTEGER now = after_milliseconds(0);
     KeInitializeSemaphore(&semaphore, 0, 2);
     KeInitializeEvent(&event, SynchronizationEvent, TRUE);
-    CHECK(KeWaitForMultipleObjects(2, objects, WaitAll, Executive, KernelMode, FALSE, &now, NULL) == STATUS_TIMEOUT);
-    CHECK(KeWaitForMultipleObjects(2, objects, WaitAny, Executive, KernelMode, FALSE, &now, NULL) == STATUS_WAIT_0 + 1);
+    CHECK(KeWaitForMultipleObjects(2, objects, WaitAll, Executive, KernelMode, FALSE, &now, NULL) ==
+          STATUS_TIMEOUT);
+    CHECK(KeWaitForMultipleObjects(2, objects, WaitAny, Executive, KernelMode, FALSE, &now, NULL) ==
+          STATUS_WAIT_0 + 1);
     KeSetEvent(&event, IO_NO_INCREMENT, FALSE);
     CHECK(KeReleaseSemaphore(&semaphore, IO_NO_INCREMENT, 2, FALSE) == 0);
-    CHECK(KeWaitForMultipleObjects(2, objects, WaitAll, Executive, KernelMode, FALSE, &now, NULL) == STATUS_SUCCESS);
+    CHECK(KeWaitForMultipleObjects(2, objects, WaitAll, Executive, KernelMode, FALSE, &now, NULL) ==
+          STATUS_SUCCESS);
     CHECK(semaphore.Header.SignalState == 1 && KeReadStateEvent(&event) == 0);
 }
 
@@ -75,7 +79,8 @@ static void remove_locks(void) {
     IO_REMOVE_LOCK lock;
     int tag;
     IoInitializeRemoveLock(&lock, 'tseT', 0, 0);
-    CHECK(IoAcquireRemoveLock(&lock, &tag) == STATUS_SUCCESS && IoAcquireRemoveLock(&lock, NULL) == STATUS_SUCCESS);
+    CHECK(IoAcquireRemoveLock(&lock, &tag) == STATUS_SUCCESS &&
+          IoAcquireRemoveLock(&lock, NULL) == STATUS_SUCCESS);
     IoReleaseRemoveLock(&lock, NULL);
     IoReleaseRemoveLockAndWait(&lock, &tag);
     CHECK(IoAcquireRemoveLock(&lock, &tag) == STATUS_DELETE_PENDING);
@@ -101,7 +106,8 @@ static void timers_and_dpcs(void) {
     KeFlushQueuedDpcs();
     CHECK(runs == 1 && last_argument == &timer && !KeRemoveQueueDpc(&dpc));
     KeInitializeTimer(&timer);
-    CHECK(!KeSetTimer(&timer, after_milliseconds(2), &dpc) && KeSetTimer(&timer, after_milliseconds(1), &dpc));
+    CHECK(!KeSetTimer(&timer, after_milliseconds(2), &dpc) &&
+          KeSetTimer(&timer, after_milliseconds(1), &dpc));
     CHECK(wait_for(&timer, 1000) == STATUS_SUCCESS && KeReadStateTimer(&timer));
     KeFlushQueuedDpcs();
     CHECK(runs == 2 && !KeCancelTimer(&timer));
@@ -139,13 +145,15 @@ static void memory(void) {
     bytes = ExAllocatePoolWithTag(NonPagedPoolNx, 16, 'tseT');
     ExFreePoolWithTag(bytes, 'tseT');
     RtlInitUnicodeString(&string, text);
-    CHECK(string.Length == 3 * sizeof(WCHAR) && string.MaximumLength == 4 * sizeof(WCHAR) && string.Buffer[2] == 'c');
+    CHECK(string.Length == 3 * sizeof(WCHAR) && string.MaximumLength == 4 * sizeof(WCHAR) &&
+          string.Buffer[2] == 'c');
 }
 
 /* If each call fails that asks for memory, all three kinds do; and none does then. */
 static void scarcity(void) {
     IocsqScarce(1);
-    CHECK(!ExAllocatePool2(POOL_FLAG_NON_PAGED, 16, 'tseT') && !IoAllocateIrp(1, FALSE) && !IoAllocateWorkItem(NULL));
+    CHECK(!ExAllocatePool2(POOL_FLAG_NON_PAGED, 16, 'tseT') && !IoAllocateIrp(1, FALSE) &&
+          !IoAllocateWorkItem(NULL));
     IocsqScarce(0);
     memory();
 }
@@ -187,7 +195,8 @@ static NTSTATUS NTAPI entry(PDRIVER_OBJECT driver, PUNICODE_STRING path) {
     IoCreateDevice(driver, 0, NULL, FILE_DEVICE_UNKNOWN, 0, FALSE, &lower);
     IoCreateDevice(driver, 0, NULL, FILE_DEVICE_UNKNOWN, 0, FALSE, &upper);
     upper->Flags |= DO_BUFFERED_IO;
-    return IoAttachDeviceToDeviceStack(upper, lower) == lower ? STATUS_SUCCESS : STATUS_UNSUCCESSFUL;
+    return IoAttachDeviceToDeviceStack(upper, lower) == lower ? STATUS_SUCCESS
+                                                              : STATUS_UNSUCCESSFUL;
 }
 
 static void complete_kept(NTSTATUS status) {
@@ -200,7 +209,8 @@ static void complete_kept(NTSTATUS status) {
 static void passed_on(PFILE_OBJECT file) {
     UCHAR bytes[8] = { '.', '.', '.', '.', '.', '.', '.', '.' };
     IOCSQ_REQUEST *read = IocsqSend(file, IRP_MJ_READ, bytes, sizeof bytes);
-    CHECK(IocsqStatus(read) == STATUS_PENDING && kept->CurrentLocation == 1 && kept->StackCount == 2);
+    CHECK(IocsqStatus(read) == STATUS_PENDING && kept->CurrentLocation == 1 &&
+          kept->StackCount == 2);
     memcpy(kept->AssociatedIrp.SystemBuffer, "abcdefgh", sizeof bytes);
     CHECK(memcmp(bytes, "........", sizeof bytes) == 0); /* the system buffer is another */
     complete_kept(STATUS_SUCCESS);
@@ -217,7 +227,8 @@ static NTSTATUS NTAPI keep(PDEVICE_OBJECT device, PIRP irp, PVOID context) {
     return STATUS_MORE_PROCESSING_REQUIRED;
 }
 
-/* An IRP of the driver's own, sent twice, and cancelled by who sent it where nobody has a cancel routine. */
+/* An IRP of the driver's own, sent twice, and cancelled by who sent it where nobody has a cancel
+ * routine. */
 static void own_irps(void) {
     NTSTATUS got = STATUS_PENDING;
     PIRP irp = IoAllocateIrp(lower->StackSize, FALSE);
@@ -248,7 +259,8 @@ static VOID NTAPI look_at_extension(PDEVICE_OBJECT device, PVOID context) {
 static void deleted_with_work(PDRIVER_OBJECT driver) {
     struct look look = { .found = 0 };
     PDEVICE_OBJECT device;
-    CHECK(IoCreateDevice(driver, sizeof look.found, NULL, FILE_DEVICE_UNKNOWN, 0, FALSE, &device) == STATUS_SUCCESS);
+    CHECK(IoCreateDevice(driver, sizeof look.found, NULL, FILE_DEVICE_UNKNOWN, 0, FALSE, &device) ==
+          STATUS_SUCCESS);
     *(LONG *)device->DeviceExtension = 7;
     PIO_WORKITEM item = IoAllocateWorkItem(device);
     KeInitializeEvent(&look.done, NotificationEvent, FALSE);
@@ -305,7 +317,8 @@ static VOID NTAPI take_out(PIO_CSQ csq, PIRP irp) {
 }
 
 static PIRP NTAPI peek(PIO_CSQ csq, PIRP irp, PVOID file) {
-    PLIST_ENTRY head = &line_of(csq)->irps, entry = irp ? irp->Tail.Overlay.ListEntry.Flink : head->Flink;
+    PLIST_ENTRY head = &line_of(csq)->irps,
+                entry = irp ? irp->Tail.Overlay.ListEntry.Flink : head->Flink;
     for (; entry != head; entry = entry->Flink) {
         PIRP next = CONTAINING_RECORD(entry, IRP, Tail.Overlay.ListEntry);
         if (!file || file == IoGetCurrentIrpStackLocation(next)->FileObject) {
@@ -359,7 +372,8 @@ static NTSTATUS NTAPI enter_lines(PDRIVER_OBJECT driver, PUNICODE_STRING path) {
         lines[at] = none;
         InitializeListHead(&lines[at].irps);
         KeInitializeSpinLock(&lines[at].lock);
-        IoCsqInitializeEx(&lines[at].queue, insert, take_out, peek, lock_line, unlock_line, complete_cancelled);
+        IoCsqInitializeEx(&lines[at].queue, insert, take_out, peek, lock_line, unlock_line,
+                          complete_cancelled);
         IocsqSetPolicy(&lines[at].queue, &policy);
     }
     driver->DriverUnload = unload_lines;
@@ -387,18 +401,21 @@ static void put_back_in_order(PIRP first) {
     CHECK(put(first, 0, true) == STATUS_PENDING && put(second, 0, true) == STATUS_PENDING);
     CHECK(take(0, NULL) == second && take(0, NULL) == first && take(0, NULL) == NULL);
     CHECK(put(second, 1, false) == STATUS_PENDING && put(first, 0, false) == STATUS_PENDING);
-    CHECK(take(0, NULL) == first && take(1, NULL) == second && put(second, 0, false) == STATUS_PENDING);
+    CHECK(take(0, NULL) == first && take(1, NULL) == second &&
+          put(second, 0, false) == STATUS_PENDING);
     CHECK(put(first, 0, true) == STATUS_PENDING);
 }
 
-/* A cancel finds no routine while the driver has the IRP: the put-back finds that cancel. One that comes after a
- * put-back finds the routine. */
+/* A cancel finds no routine while the driver has the IRP: the put-back finds that cancel. One that
+ * comes after a put-back finds the routine. */
 static void cancel_round_a_put_back(IOCSQ_REQUEST *first, IOCSQ_REQUEST *second) {
     PIRP irp = take(0, NULL);
     CHECK(!IocsqCancel(first) && IocsqStatus(first) == STATUS_PENDING && lines[0].completed == 0);
-    CHECK(put(irp, 0, true) == STATUS_PENDING && IocsqStatus(first) == STATUS_CANCELLED && lines[0].completed == 1);
+    CHECK(put(irp, 0, true) == STATUS_PENDING && IocsqStatus(first) == STATUS_CANCELLED &&
+          lines[0].completed == 1);
     irp = take(0, NULL);
-    CHECK(put(irp, 0, true) == STATUS_PENDING && IocsqCancel(second) && IocsqStatus(second) == STATUS_CANCELLED);
+    CHECK(put(irp, 0, true) == STATUS_PENDING && IocsqCancel(second) &&
+          IocsqStatus(second) == STATUS_CANCELLED);
     CHECK(lines[0].completed == 2 && take(0, NULL) == NULL);
     IocsqFree(first);
     IocsqFree(second);
@@ -418,7 +435,8 @@ static void put_back_elsewhere(IOCSQ_REQUEST *read, PFILE_OBJECT file, PFILE_OBJ
 static void put_backs(void) {
     PDRIVER_OBJECT driver = IocsqLoad(enter_lines);
     PFILE_OBJECT file = IocsqOpen(driver), other = IocsqOpen(driver);
-    IOCSQ_REQUEST *first = IocsqSend(file, IRP_MJ_READ, NULL, 0), *second = IocsqSend(file, IRP_MJ_READ, NULL, 0);
+    IOCSQ_REQUEST *first = IocsqSend(file, IRP_MJ_READ, NULL, 0),
+                  *second = IocsqSend(file, IRP_MJ_READ, NULL, 0);
     put_back_in_order(take(0, NULL));
     cancel_round_a_put_back(first, second);
     put_back_elsewhere(IocsqSend(file, IRP_MJ_READ, NULL, 0), file, other);

@@ -29,13 +29,15 @@ static void words(void) {
     PVOID pointer = NULL;
     CHECK(string.Length == 3 * sizeof(WCHAR) && string.MaximumLength == 4 * sizeof(WCHAR));
     CHECK(number.LowPart == 0xfffffffe && number.HighPart == -1 && number.u.HighPart == -1);
-    CHECK(InterlockedOr(&bits, 1) == 0x0c && InterlockedAnd(&bits, 5) == 0x0d && InterlockedXor(&bits, 1) == 5);
+    CHECK(InterlockedOr(&bits, 1) == 0x0c && InterlockedAnd(&bits, 5) == 0x0d &&
+          InterlockedXor(&bits, 1) == 5);
     CHECK(InterlockedIncrement64(&wide) == 2 && InterlockedExchangeAdd64(&wide, 3) == 2);
     CHECK(bits == 4 && InterlockedAdd(&bits, 1) == 5);
     CHECK(InterlockedCompareExchange64(&wide, 7, 5) == 5 && wide == 7);
     CHECK(InterlockedCompareExchangePointer(&pointer, &bits, NULL) == NULL && pointer == &bits);
     CHECK(RtlCompareMemory("abcd", "abxd", 4) == 2 && RtlEqualMemory("abcd", "abcd", 4));
-    CHECK(METHOD_FROM_CTL_CODE(CTL_CODE(FILE_DEVICE_UNKNOWN, 0x801, METHOD_OUT_DIRECT, FILE_READ_DATA)) == 2);
+    CHECK(METHOD_FROM_CTL_CODE(
+              CTL_CODE(FILE_DEVICE_UNKNOWN, 0x801, METHOD_OUT_DIRECT, FILE_READ_DATA)) == 2);
 }
 
 /* ---- Lists and locks ---- */
@@ -47,13 +49,15 @@ static void lists(void) {
     KeInitializeSpinLock(&lock);
     CHECK(ExInterlockedInsertTailList(&head, &second, &lock) == NULL);
     CHECK(ExInterlockedInsertHeadList(&head, &first, &lock) == &second);
-    CHECK(ExInterlockedRemoveHeadList(&head, &lock) == &first && ExInterlockedRemoveHeadList(&head, &lock) == &second);
+    CHECK(ExInterlockedRemoveHeadList(&head, &lock) == &first &&
+          ExInterlockedRemoveHeadList(&head, &lock) == &second);
     CHECK(ExInterlockedRemoveHeadList(&head, &lock) == NULL && KeGetCurrentIrql() == PASSIVE_LEVEL);
     PushEntryList(&singles, &single);
     CHECK(PopEntryList(&singles) == &single && PopEntryList(&singles) == NULL);
 }
 
-/* Hand over hand: the lock that was taken first is left first, and each release is given the other's IRQL. */
+/* Hand over hand: the lock that was taken first is left first, and each release is given the
+ * other's IRQL. */
 static void locks_in_either_order(void) {
     KSPIN_LOCK first, second;
     KLOCK_QUEUE_HANDLE outer, inner;
@@ -104,7 +108,8 @@ static void lookaside_lists(void) {
     PAGED_LOOKASIDE_LIST paged;
     ExInitializeNPagedLookasideList(&list, NULL, NULL, 0, 24, 'tseT', 0);
     ExInitializePagedLookasideList(&paged, ExAllocatePoolWithTag, ExFreePool, 0, 8, 'tseT', 0);
-    PVOID entry = ExAllocateFromNPagedLookasideList(&list), other = ExAllocateFromPagedLookasideList(&paged);
+    PVOID entry = ExAllocateFromNPagedLookasideList(&list),
+          other = ExAllocateFromPagedLookasideList(&paged);
     CHECK(entry && other);
     ExFreeToPagedLookasideList(&paged, other);
     ExFreeToNPagedLookasideList(&list, entry);
@@ -126,10 +131,12 @@ static void rundown_protection(void) {
 }
 
 static void symbolic_links(void) {
-    UNICODE_STRING link = RTL_CONSTANT_STRING(L"\\DosDevices\\A"), device = RTL_CONSTANT_STRING(L"\\Device\\A");
+    UNICODE_STRING link = RTL_CONSTANT_STRING(L"\\DosDevices\\A"),
+                   device = RTL_CONSTANT_STRING(L"\\Device\\A");
     CHECK(IoCreateSymbolicLink(&link, &device) == STATUS_SUCCESS);
     CHECK(IoCreateSymbolicLink(&link, &device) == STATUS_OBJECT_NAME_COLLISION);
-    CHECK(IoDeleteSymbolicLink(&link) == STATUS_SUCCESS && IoDeleteSymbolicLink(&link) == STATUS_OBJECT_NAME_NOT_FOUND);
+    CHECK(IoDeleteSymbolicLink(&link) == STATUS_SUCCESS &&
+          IoDeleteSymbolicLink(&link) == STATUS_OBJECT_NAME_NOT_FOUND);
 }
 
 /* ---- Buffers, as the device's flags and the control codes have them ---- */
@@ -140,7 +147,9 @@ static bool has_buffer, has_mdl;
 /* Notes what there is, and answers with an X. */
 static NTSTATUS NTAPI answer(PDEVICE_OBJECT of, PIRP irp) {
     PUCHAR system = irp->AssociatedIrp.SystemBuffer;
-    PUCHAR bytes = irp->MdlAddress ? MmGetSystemAddressForMdlSafe(irp->MdlAddress, NormalPagePriority) : system;
+    PUCHAR bytes = irp->MdlAddress
+                       ? MmGetSystemAddressForMdlSafe(irp->MdlAddress, NormalPagePriority)
+                       : system;
     (void)of;
     has_buffer = system != NULL;
     has_mdl = irp->MdlAddress != NULL;
@@ -188,8 +197,10 @@ static void buffers(void) {
         const struct way *way = &ways[at];
         UCHAR bytes[4] = { 0, 0, 0, 0 };
         device->Flags = way->flags;
-        IOCSQ_REQUEST *sent = way->code ? IocsqControl(file, way->code, bytes, 2, 4) : IocsqSend(file, IRP_MJ_READ, bytes, 4);
-        CHECK(has_buffer == way->buffer && has_mdl == way->mdl && (bytes[0] == 'X') == way->answered);
+        IOCSQ_REQUEST *sent = way->code ? IocsqControl(file, way->code, bytes, 2, 4)
+                                        : IocsqSend(file, IRP_MJ_READ, bytes, 4);
+        CHECK(has_buffer == way->buffer && has_mdl == way->mdl &&
+              (bytes[0] == 'X') == way->answered);
         IocsqFree(sent);
     }
     ObReferenceObject(file);

@@ -1,6 +1,7 @@
-/* A patient test: threads send a few requests each, and nobody closes their file objects; in every other round somebody
- * cancels a few requests. Each request has to end in its time, or it wasn't cancelled and the driver's policy says that it
- * may wait (Waits). Then the next round comes, on other file objects:
+/* A patient test: threads send a few requests each, and nobody closes their file objects; in every
+ * other round somebody cancels a few requests. Each request has to end in its time, or it wasn't
+ * cancelled and the driver's policy says that it may wait (Waits). Then the next round comes, on
+ * other file objects:
  *
  *     patient THREADS ROUNDS SEED    one thread runs at a time, as the seed draws
  *
@@ -114,8 +115,8 @@ int main(int argc, char **argv) {
     printf("inserted %llu, %lu requests ended in their time, %lu waited as they may\n",
            (unsigned long long)IocsqCounts().Inserted, ended, waiting);
     if (IocsqCounts().Inserted == 0) {
-        fprintf(stderr, "iocsq: nothing was inserted: no request reached a queue (do the driver's control codes stand in "
-                        "DriverControls?)\n");
+        fprintf(stderr, "iocsq: nothing was inserted: no request reached a queue (do the driver's "
+                        "control codes stand in DriverControls?)\n");
         return IOCSQ_TESTED_NOTHING;
     }
     return 0;

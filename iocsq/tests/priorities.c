@@ -1,6 +1,6 @@
-/* Runs by priorities, against the bound that is said of them: one thread passes so many points, another a single one.
- * That it comes just after the K-th of the others is a fault of depth 2, and each K has to come in as many runs as the
- * bound has it: priorities POINTS RUNS. */
+/* Runs by priorities, against the bound that is said of them: one thread passes POINTS points,
+ * another a single one. That it comes just after the K-th of the others is a fault of depth 2, and
+ * each K has to come in as many runs as the bound has it: priorities POINTS RUNS. */
 #define _GNU_SOURCE
 #include "iocsq_test.h"
 
@@ -39,15 +39,17 @@ int main(int argc, char **argv) {
     if (argc < 3 || (points = atoi(argv[1])) >= POINTS) {
         return 2;
     }
-    hits = mmap(NULL, POINTS * sizeof *hits, PROT_READ | PROT_WRITE, MAP_SHARED | MAP_ANONYMOUS, -1, 0);
+    hits = mmap(NULL, POINTS * sizeof *hits, PROT_READ | PROT_WRITE, MAP_SHARED | MAP_ANONYMOUS, -1,
+                0);
     IocsqBounded();
     IOCSQ_EXPLORED explored = IocsqDraw(run, NULL, 2, (ULONG)atoi(argv[2]));
     unsigned long long least = explored.Schedules / (explored.Threads * explored.Steps), few = 0;
     for (int at = 0; at <= points; at++) {
         few += hits[at] < least;
     }
-    printf("%llu runs, %u threads, %u steps: at least %llu each; %llu of %d have fewer, %llu were longer, status %d\n",
-           (unsigned long long)explored.Schedules, explored.Threads, explored.Steps, least, few, points + 1,
-           (unsigned long long)explored.Longer, explored.Status);
+    printf("%llu runs, %u threads, %u steps: at least %llu each; %llu of %d have fewer, %llu were "
+           "longer, status %d\n",
+           (unsigned long long)explored.Schedules, explored.Threads, explored.Steps, least, few,
+           points + 1, (unsigned long long)explored.Longer, explored.Status);
     return least > 0 && few == 0 && explored.Longer == 0 && explored.Status == 0 ? 0 : 1;
 }

@@ -31,8 +31,8 @@ static inline uint32_t next_of(uint32_t *dice, uint32_t below) {
     return *dice % below;
 }
 
-/* What a request brings: a small number, now and then any byte, so that a driver that reads one of 1, 2 or 4 bytes finds
- * another each time. */
+/* What a request brings: a small number, now and then any byte, so that a driver that reads one of
+ * 1, 2 or 4 bytes finds another each time. */
 static inline void fill_buffer(uint32_t *dice, unsigned char *buffer, size_t size) {
     memset(buffer, 0, size);
     buffer[0] = (unsigned char)next_of(dice, next_of(dice, 8) ? 4 : 256);
@@ -51,7 +51,8 @@ static inline PDRIVER_OBJECT load_driver(const char *program) {
 }
 
 /* An argument of the program, which is a number. */
-static inline long number_of_argument(int argc, char **argv, int at, long least, long most, const char *usage) {
+static inline long number_of_argument(int argc, char **argv, int at, long least, long most,
+                                      const char *usage) {
     char *end = NULL;
     long value = at < argc ? strtol(argv[at], &end, 10) : -1;
     if (!end || *end || value < least || value > most) {

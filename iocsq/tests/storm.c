@@ -1,11 +1,13 @@
-/* Threads that open file objects, read, write, control, cancel and close at random, on whatever driver is linked:
+/* Threads that open file objects, read, write, control, cancel and close at random, on whatever
+ * driver is linked:
  *
  *     storm THREADS TURNS SEED                    threads run freely, with delays at random
- *     storm THREADS TURNS SEED turns [SWITCHES]   one runs at a time, as the seed draws; at most so many switches
+ *     storm THREADS TURNS SEED turns [SWITCHES]   one runs at a time, as the seed draws; at most
+ *                                                 SWITCHES switches
  *
- * It ends with status 0, with 70 after a report (IOCSQ_DISAGREES), and with 71 where something never happened without
- * which the run says nothing of the driver's queue (IOCSQ_TESTED_NOTHING). 72: a policy is missing, or a
- * peek context isn't what it says (IOCSQ_NO_POLICY).
+ * It ends with status 0, with 70 after a report (IOCSQ_DISAGREES), and with 71 where something
+ * never happened without which the run says nothing of the driver's queue (IOCSQ_TESTED_NOTHING).
+ * 72: a policy is missing, or a peek context isn't what it says (IOCSQ_NO_POLICY).
  * 2: an argument is wrong.
  */
 #include "program.h"
@@ -53,8 +55,8 @@ static void reap(struct request *r) {
 }
 
 /* ---- What a user does ---- */
-/* What is odd about a device control, of so many: anyone may send a driver a code that it doesn't know, and buffers of
- * no bytes. */
+/* What is odd about some device controls, each kind in one of CONTROLS: anyone may send a driver a
+ * code that it doesn't know, and buffers of no bytes. */
 enum oddity { OTHER_CODE, NO_INPUT, NO_OUTPUT, NO_BUFFER, CONTROLS = 32 };
 
 static ULONG control_code(struct user *u) {
@@ -71,7 +73,8 @@ static ULONG other_code(void) {
     return most + CONTROL(1) - CONTROL(0);
 }
 
-static IOCSQ_REQUEST *control(struct user *u, PFILE_OBJECT file, unsigned char *buffer, ULONG length) {
+static IOCSQ_REQUEST *control(struct user *u, PFILE_OBJECT file, unsigned char *buffer,
+                              ULONG length) {
     uint32_t odd = roll(u, CONTROLS);
     ULONG code = odd == OTHER_CODE ? other_code() : control_code(u);
     ULONG input = odd == NO_INPUT || odd == NO_BUFFER ? 0 : length;
@@ -205,10 +208,12 @@ static void run(int threads, uint32_t seed) {
 
 static void print_counts(void) {
     IOCSQ_COUNTS c = IocsqCounts();
-    printf("inserted %llu refused %llu removed %llu cancelled %llu completed %llu, peeks %llu, audits %llu; "
-           "succeeded %lu cancelled %lu timed out %lu refused %lu of %lu cancels; %llu switches\n",
-           (unsigned long long)c.Inserted, (unsigned long long)c.Refused, (unsigned long long)c.Removed,
-           (unsigned long long)c.Cancelled, (unsigned long long)c.Completed, (unsigned long long)c.Peeks,
+    printf("inserted %llu refused %llu removed %llu cancelled %llu completed %llu, peeks %llu, "
+           "audits %llu; succeeded %lu cancelled %lu timed out %lu refused %lu of %lu cancels; "
+           "%llu switches\n",
+           (unsigned long long)c.Inserted, (unsigned long long)c.Refused,
+           (unsigned long long)c.Removed, (unsigned long long)c.Cancelled,
+           (unsigned long long)c.Completed, (unsigned long long)c.Peeks,
            (unsigned long long)c.Audits, succeeded, cancelled, timed_out, refused, cancels,
            (unsigned long long)c.Switches);
 }

@@ -1,5 +1,5 @@
-/* A device with little room: a write that it has no room for goes back into the queue, in front, until a timer's DPC
- * makes room. Reads are of the neither kind, and end at once. */
+/* A device with little room: a write that it has no room for goes back into the queue, in front,
+ * until a timer's DPC makes room. Reads are of the neither kind, and end at once. */
 #include <wdm.h>
 #include <csq.h>
 
@@ -55,10 +55,12 @@ static VOID NTAPI Remove(PIO_CSQ Csq, PIRP Irp) {
 }
 
 static PIRP NTAPI Peek(PIO_CSQ Csq, PIRP Irp, PVOID PeekContext) {
-    PLIST_ENTRY Head = &SinkOf(Csq)->Queue, Entry = Irp ? Irp->Tail.Overlay.ListEntry.Flink : Head->Flink;
+    PLIST_ENTRY Head = &SinkOf(Csq)->Queue,
+                Entry = Irp ? Irp->Tail.Overlay.ListEntry.Flink : Head->Flink;
     for (; Entry != Head; Entry = Entry->Flink) {
         PIRP Next = CONTAINING_RECORD(Entry, IRP, Tail.Overlay.ListEntry);
-        if (PeekContext == NULL || PeekContext == (PVOID)IoGetCurrentIrpStackLocation(Next)->FileObject) {
+        if (PeekContext == NULL ||
+            PeekContext == (PVOID)IoGetCurrentIrpStackLocation(Next)->FileObject) {
             return Next;
         }
     }
@@ -113,14 +115,16 @@ static VOID DrainAll(PSINK Sink) {
 
 static VOID Drain(PSINK Sink) {
     InterlockedExchange(&Sink->Asked, TRUE);
-    while (InterlockedExchange(&Sink->Asked, FALSE) && InterlockedCompareExchange(&Sink->Draining, TRUE, FALSE) == FALSE) {
+    while (InterlockedExchange(&Sink->Asked, FALSE) &&
+           InterlockedCompareExchange(&Sink->Draining, TRUE, FALSE) == FALSE) {
         DrainAll(Sink);
         InterlockedExchange(&Sink->Draining, FALSE);
     }
 }
 
 static KDEFERRED_ROUTINE MakeRoom;
-static VOID NTAPI MakeRoom(PKDPC Dpc, PVOID DeferredContext, PVOID SystemArgument1, PVOID SystemArgument2) {
+static VOID NTAPI MakeRoom(PKDPC Dpc, PVOID DeferredContext, PVOID SystemArgument1,
+                           PVOID SystemArgument2) {
     PSINK Sink = DeferredContext;
     UNREFERENCED_PARAMETER(Dpc);
     UNREFERENCED_PARAMETER(SystemArgument1);
@@ -178,7 +182,8 @@ NTSTATUS NTAPI DriverEntry(PDRIVER_OBJECT DriverObject, PUNICODE_STRING Registry
     PDEVICE_OBJECT DeviceObject;
     PSINK Sink;
     LARGE_INTEGER First;
-    NTSTATUS Status = IoCreateDevice(DriverObject, sizeof(SINK), NULL, FILE_DEVICE_UNKNOWN, 0, FALSE, &DeviceObject);
+    NTSTATUS Status = IoCreateDevice(DriverObject, sizeof(SINK), NULL, FILE_DEVICE_UNKNOWN, 0,
+                                     FALSE, &DeviceObject);
     UNREFERENCED_PARAMETER(RegistryPath);
     if (!NT_SUCCESS(Status)) {
         return Status;

@@ -1,5 +1,6 @@
-/* Inverted calls: an application keeps device controls pending, and the driver completes one for each event. Events that
- * come while none is pending are stored. The answer goes to pages of the application (METHOD_OUT_DIRECT). */
+/* Inverted calls: an application keeps device controls pending, and the driver completes one for
+ * each event. Events that come while none is pending are stored. The answer goes to pages of the
+ * application (METHOD_OUT_DIRECT). */
 #include <wdm.h>
 #include <csq.h>
 
@@ -59,8 +60,8 @@ static VOID NTAPI EvtRemove(_In_ PIO_CSQ Csq, _In_ PIRP Irp) {
 static PIRP NTAPI EvtPeek(_In_ PIO_CSQ Csq, _In_opt_ PIRP Irp, _In_opt_ PVOID Context) {
     PEXTENSION Extension = CONTAINING_RECORD(Csq, EXTENSION, Csq);
     PLIST_ENTRY Entry;
-    for (Entry = Irp ? Irp->Tail.Overlay.ListEntry.Flink : Extension->Calls.Flink; Entry != &Extension->Calls;
-         Entry = Entry->Flink) {
+    for (Entry = Irp ? Irp->Tail.Overlay.ListEntry.Flink : Extension->Calls.Flink;
+         Entry != &Extension->Calls; Entry = Entry->Flink) {
         PIRP Call = CONTAINING_RECORD(Entry, IRP, Tail.Overlay.ListEntry);
         if (!Context || (PVOID)IoGetCurrentIrpStackLocation(Call)->FileObject == Context) {
             return Call;
@@ -81,7 +82,8 @@ static VOID NTAPI EvtUnlock(_In_ PIO_CSQ Csq, _In_ _IRQL_restores_ KIRQL Irql) {
 
 static VOID NTAPI EvtCanceled(_In_ PIO_CSQ Csq, _In_ PIRP Irp) {
 #if WRONG == 1
-    PVOID Note = ExAllocatePoolWithTag(PagedPool, 16, EVENT_TAG); /* where a cancel may come at DISPATCH_LEVEL */
+    PVOID Note = ExAllocatePoolWithTag(PagedPool, 16, EVENT_TAG); /* where a cancel may come at
+                                                                   * DISPATCH_LEVEL */
     if (Note) {
         ExFreePoolWithTag(Note, EVENT_TAG);
     }
@@ -114,7 +116,8 @@ static VOID Deliver(_In_ PEXTENSION Extension) {
     PLIST_ENTRY Entry;
     PIRP Call;
     KeAcquireGuardedMutex(&Extension->Delivering);
-    while ((Entry = ExInterlockedRemoveHeadList(&Extension->Events, &Extension->EventsLock)) != NULL) {
+    while ((Entry = ExInterlockedRemoveHeadList(&Extension->Events, &Extension->EventsLock)) !=
+           NULL) {
         PEVENT Event = CONTAINING_RECORD(Entry, EVENT, Link);
         Call = IoCsqRemoveNextIrp(&Extension->Csq, NULL);
         if (Call == NULL) {
@@ -134,7 +137,8 @@ BOOLEAN MayWait(_In_ PIRP Irp) {
     return IsListEmpty(&Extension->Events);
 }
 
-_Must_inspect_result_ static NTSTATUS Store(_In_ PEXTENSION Extension, _In_reads_bytes_(Length) const UCHAR *Bytes,
+_Must_inspect_result_ static NTSTATUS Store(_In_ PEXTENSION Extension,
+                                            _In_reads_bytes_(Length) const UCHAR *Bytes,
                                             _In_ ULONG Length) {
     PEVENT Event;
     if (Length < sizeof(UCHAR)) {
@@ -173,9 +177,11 @@ static NTSTATUS NTAPI EvtControl(_In_ PDEVICE_OBJECT DeviceObject, _Inout_ PIRP 
     PIO_STACK_LOCATION Stack = IoGetCurrentIrpStackLocation(Irp);
     NTSTATUS Status = STATUS_INVALID_DEVICE_REQUEST;
     switch (Stack->Parameters.DeviceIoControl.IoControlCode) {
-    case IOCTL_NEXT_EVENT: return Wait(Extension, Irp, Stack->Parameters.DeviceIoControl.OutputBufferLength);
+    case IOCTL_NEXT_EVENT:
+        return Wait(Extension, Irp, Stack->Parameters.DeviceIoControl.OutputBufferLength);
     case IOCTL_RAISE_EVENT:
-        Status = Store(Extension, Irp->AssociatedIrp.SystemBuffer, Stack->Parameters.DeviceIoControl.InputBufferLength);
+        Status = Store(Extension, Irp->AssociatedIrp.SystemBuffer,
+                       Stack->Parameters.DeviceIoControl.InputBufferLength);
         if (NT_SUCCESS(Status)) {
             Deliver(Extension);
         }
@@ -219,8 +225,8 @@ NTSTATUS NTAPI DriverEntry(_In_ PDRIVER_OBJECT DriverObject, _In_ PUNICODE_STRIN
     UNICODE_STRING Name = RTL_CONSTANT_STRING(L"\\Device\\Events");
     PDEVICE_OBJECT Device;
     PEXTENSION Extension;
-    NTSTATUS Status =
-        IoCreateDevice(DriverObject, sizeof(*Extension), &Name, FILE_DEVICE_UNKNOWN, FILE_DEVICE_SECURE_OPEN, FALSE, &Device);
+    NTSTATUS Status = IoCreateDevice(DriverObject, sizeof(*Extension), &Name, FILE_DEVICE_UNKNOWN,
+                                     FILE_DEVICE_SECURE_OPEN, FALSE, &Device);
     UNREFERENCED_PARAMETER(RegistryPath);
     if (!NT_SUCCESS(Status)) {
         return Status;
@@ -231,10 +237,13 @@ NTSTATUS NTAPI DriverEntry(_In_ PDRIVER_OBJECT DriverObject, _In_ PUNICODE_STRIN
     KeInitializeSpinLock(&Extension->CallsLock);
     KeInitializeSpinLock(&Extension->EventsLock);
     KeInitializeGuardedMutex(&Extension->Delivering);
-    ExInitializeNPagedLookasideList(&Extension->EventMemory, NULL, NULL, 0, sizeof(EVENT), EVENT_TAG, 0);
-    IoCsqInitializeEx(&Extension->Csq, EvtInsert, EvtRemove, EvtPeek, EvtLock, EvtUnlock, EvtCanceled);
+    ExInitializeNPagedLookasideList(&Extension->EventMemory, NULL, NULL, 0, sizeof(EVENT),
+                                    EVENT_TAG, 0);
+    IoCsqInitializeEx(&Extension->Csq, EvtInsert, EvtRemove, EvtPeek, EvtLock, EvtUnlock,
+                      EvtCanceled);
     DriverObject->DriverUnload = EvtUnload;
-    DriverObject->MajorFunction[IRP_MJ_CREATE] = DriverObject->MajorFunction[IRP_MJ_CLOSE] = EvtOpen;
+    DriverObject->MajorFunction[IRP_MJ_CREATE] = DriverObject->MajorFunction[IRP_MJ_CLOSE] =
+        EvtOpen;
     DriverObject->MajorFunction[IRP_MJ_DEVICE_CONTROL] = EvtControl;
     DriverObject->MajorFunction[IRP_MJ_CLEANUP] = EvtCleanup;
     return STATUS_SUCCESS;

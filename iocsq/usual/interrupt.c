@@ -1,5 +1,5 @@
-/* A device with interrupts: its service routine notes what happened and asks for a DPC, which ends as many requests as the
- * device has done. A timer stands for the device. */
+/* A device with interrupts: its service routine notes what happened and asks for a DPC, which ends
+ * as many requests as the device has done. A timer stands for the device. */
 #include <ntddk.h>
 #include <csq.h>
 
@@ -57,10 +57,12 @@ static VOID NTAPI RemoveRequest(PIO_CSQ Csq, PIRP Irp) {
 }
 
 static PIRP NTAPI PeekRequest(PIO_CSQ Csq, PIRP Irp, PVOID PeekContext) {
-    PLIST_ENTRY Head = &DEVICE_OF(Csq)->List, Entry = Irp ? Irp->Tail.Overlay.ListEntry.Flink : Head->Flink;
+    PLIST_ENTRY Head = &DEVICE_OF(Csq)->List,
+                Entry = Irp ? Irp->Tail.Overlay.ListEntry.Flink : Head->Flink;
     for (; Entry != Head; Entry = Entry->Flink) {
         PIRP Next = CONTAINING_RECORD(Entry, IRP, Tail.Overlay.ListEntry);
-        if (PeekContext == NULL || PeekContext == (PVOID)IoGetCurrentIrpStackLocation(Next)->FileObject) {
+        if (PeekContext == NULL ||
+            PeekContext == (PVOID)IoGetCurrentIrpStackLocation(Next)->FileObject) {
             return Next;
         }
     }
@@ -100,7 +102,8 @@ static BOOLEAN InterruptService(PDEVICE_OBJECT DeviceObject) {
     return TRUE;
 }
 
-static VOID NTAPI HardwareTick(PKDPC Dpc, PVOID DeferredContext, PVOID SystemArgument1, PVOID SystemArgument2) {
+static VOID NTAPI HardwareTick(PKDPC Dpc, PVOID DeferredContext, PVOID SystemArgument1,
+                               PVOID SystemArgument2) {
     PDEVICE_OBJECT DeviceObject = DeferredContext;
     UNREFERENCED_PARAMETER(Dpc);
     UNREFERENCED_PARAMETER(SystemArgument1);
@@ -160,7 +163,8 @@ NTSTATUS NTAPI DriverEntry(PDRIVER_OBJECT DriverObject, PUNICODE_STRING Registry
     PDEVICE_OBJECT DeviceObject;
     PDEVICE Device;
     LARGE_INTEGER First;
-    NTSTATUS Status = IoCreateDevice(DriverObject, sizeof(DEVICE), NULL, FILE_DEVICE_UNKNOWN, 0, FALSE, &DeviceObject);
+    NTSTATUS Status = IoCreateDevice(DriverObject, sizeof(DEVICE), NULL, FILE_DEVICE_UNKNOWN, 0,
+                                     FALSE, &DeviceObject);
     UNREFERENCED_PARAMETER(RegistryPath);
     if (!NT_SUCCESS(Status)) {
         return Status;
@@ -169,8 +173,8 @@ NTSTATUS NTAPI DriverEntry(PDRIVER_OBJECT DriverObject, PUNICODE_STRING Registry
     InitializeListHead(&Device->List);
     KeInitializeSpinLock(&Device->Lock);
     KeInitializeSpinLock(&Device->Statistics);
-    IoCsqInitializeEx(&Device->Requests, InsertRequest, RemoveRequest, PeekRequest, LockRequests, UnlockRequests,
-                      CanceledRequest);
+    IoCsqInitializeEx(&Device->Requests, InsertRequest, RemoveRequest, PeekRequest, LockRequests,
+                      UnlockRequests, CanceledRequest);
     if (WRONG != 2) {
         IoInitializeDpcRequest(DeviceObject, DpcForIsr);
     }

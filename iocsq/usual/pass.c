@@ -1,5 +1,5 @@
-/* A filter of a plug and play device: reads wait until a write lets them go on to the device below, which its work item
- * sends them to. The device is added, started and removed by requests. */
+/* A filter of a plug and play device: reads wait until a write lets them go on to the device below,
+ * which its work item sends them to. The device is added, started and removed by requests. */
 #include <wdm.h>
 #include <csq.h>
 #include <initguid.h>
@@ -188,7 +188,8 @@ _Use_decl_annotations_ NTSTATUS NTAPI FilterPnp(PDEVICE_OBJECT DeviceObject, PIR
     switch (IoGetCurrentIrpStackLocation(Irp)->MinorFunction) {
     case IRP_MN_REMOVE_DEVICE: return RemoveFilter(DeviceObject, Irp);
     case IRP_MN_START_DEVICE:
-        Status = IoForwardIrpSynchronously(Filter->Lower, Irp) ? Irp->IoStatus.Status : STATUS_UNSUCCESSFUL;
+        Status = IoForwardIrpSynchronously(Filter->Lower, Irp) ? Irp->IoStatus.Status
+                                                               : STATUS_UNSUCCESSFUL;
         Status = FilterComplete(Irp, Status);
         break;
     default:
@@ -203,20 +204,24 @@ static VOID InitializeFilter(PFILTER Filter) {
     IoInitializeRemoveLock(&Filter->RemoveLock, FILTER_TAG, 0, 0);
     KeInitializeSpinLock(&Filter->HeldLock);
     InitializeListHead(&Filter->HeldList);
-    IoCsqInitializeEx(&Filter->Held, HeldInsert, HeldRemove, HeldPeek, HeldLock, HeldUnlock, HeldCanceled);
+    IoCsqInitializeEx(&Filter->Held, HeldInsert, HeldRemove, HeldPeek, HeldLock, HeldUnlock,
+                      HeldCanceled);
 }
 
-_Use_decl_annotations_ NTSTATUS NTAPI FilterAddDevice(PDRIVER_OBJECT DriverObject, PDEVICE_OBJECT PhysicalDeviceObject) {
+_Use_decl_annotations_ NTSTATUS NTAPI FilterAddDevice(PDRIVER_OBJECT DriverObject,
+                                                      PDEVICE_OBJECT PhysicalDeviceObject) {
     PDEVICE_OBJECT DeviceObject;
     PFILTER Filter;
-    NTSTATUS Status = IoCreateDevice(DriverObject, sizeof(FILTER), NULL, FILE_DEVICE_UNKNOWN, 0, FALSE, &DeviceObject);
+    NTSTATUS Status = IoCreateDevice(DriverObject, sizeof(FILTER), NULL, FILE_DEVICE_UNKNOWN, 0,
+                                     FALSE, &DeviceObject);
     if (!NT_SUCCESS(Status)) {
         return Status;
     }
     Filter = DeviceObject->DeviceExtension;
     InitializeFilter(Filter);
     Filter->Sender = ExAllocatePoolWithTag(NonPagedPoolNx, IoSizeofWorkItem(), FILTER_TAG);
-    Filter->Lower = Filter->Sender ? IoAttachDeviceToDeviceStack(DeviceObject, PhysicalDeviceObject) : NULL;
+    Filter->Lower =
+        Filter->Sender ? IoAttachDeviceToDeviceStack(DeviceObject, PhysicalDeviceObject) : NULL;
     if (Filter->Lower == NULL) {
         if (Filter->Sender) {
             ExFreePoolWithTag(Filter->Sender, FILTER_TAG);
@@ -225,7 +230,8 @@ _Use_decl_annotations_ NTSTATUS NTAPI FilterAddDevice(PDRIVER_OBJECT DriverObjec
         return STATUS_NO_SUCH_DEVICE;
     }
     IoInitializeWorkItem(DeviceObject, Filter->Sender);
-    DeviceObject->Flags |= Filter->Lower->Flags & (DO_BUFFERED_IO | DO_DIRECT_IO | DO_POWER_PAGABLE);
+    DeviceObject->Flags |=
+        Filter->Lower->Flags & (DO_BUFFERED_IO | DO_DIRECT_IO | DO_POWER_PAGABLE);
     DeviceObject->Flags &= ~(ULONG)DO_DEVICE_INITIALIZING;
     return STATUS_SUCCESS;
 }

@@ -1,5 +1,5 @@
-/* Requests of all file objects wait in one queue, and each event is for one file object: its reads are looked for by a
- * peek. What refers to a file object in the meantime has a reference to it. */
+/* Requests of all file objects wait in one queue, and each event is for one file object: its reads
+ * are looked for by a peek. What refers to a file object in the meantime has a reference to it. */
 #include <ntddk.h>
 #include <csq.h>
 
@@ -89,7 +89,8 @@ static VOID ServeFile(PEXTENSION Extension, PFILE_OBJECT File) {
 }
 
 static KDEFERRED_ROUTINE NotifyDpc;
-static VOID NTAPI NotifyDpc(PKDPC Dpc, PVOID DeferredContext, PVOID SystemArgument1, PVOID SystemArgument2) {
+static VOID NTAPI NotifyDpc(PKDPC Dpc, PVOID DeferredContext, PVOID SystemArgument1,
+                            PVOID SystemArgument2) {
     PEXTENSION Extension = DeferredContext;
     PFILE_OBJECT File = ExchangeNotified(Extension, NULL, FALSE);
     UNREFERENCED_PARAMETER(Dpc);
@@ -154,8 +155,8 @@ static VOID NTAPI Unload(PDRIVER_OBJECT DriverObject) {
 NTSTATUS NTAPI DriverEntry(PDRIVER_OBJECT DriverObject, PUNICODE_STRING RegistryPath) {
     PDEVICE_OBJECT DeviceObject;
     PEXTENSION Extension;
-    NTSTATUS Status =
-        IoCreateDevice(DriverObject, sizeof(EXTENSION), NULL, FILE_DEVICE_UNKNOWN, 0, FALSE, &DeviceObject);
+    NTSTATUS Status = IoCreateDevice(DriverObject, sizeof(EXTENSION), NULL, FILE_DEVICE_UNKNOWN, 0,
+                                     FALSE, &DeviceObject);
     UNREFERENCED_PARAMETER(RegistryPath);
     if (!NT_SUCCESS(Status)) {
         return Status;

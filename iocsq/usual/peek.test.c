@@ -1,4 +1,5 @@
-/* What the checker is to know of peek.c: a read may wait until there is a write of its file object. */
+/* What the checker is to know of peek.c: a read may wait until there is a write of its file
+ * object. */
 #include "iocsq_test.h"
 
 static BOOLEAN IsRead(PIRP Irp) {

@@ -1,5 +1,6 @@
-/* A serial port in loop-back: what is written is received, and a read gets it, or gives up at its deadline, which a
- * periodic timer's DPC looks for. Requests' own places (DriverContext) keep the deadlines. */
+/* A serial port in loop-back: what is written is received, and a read gets it, or gives up at its
+ * deadline, which a periodic timer's DPC looks for. Requests' own places (DriverContext) keep the
+ * deadlines. */
 #include <ntddk.h>
 #include <csq.h>
 
@@ -115,12 +116,14 @@ static VOID SatisfyReads(PPORT Port) {
     PIRP Irp;
     while (HasReceived(Port) && (Irp = IoCsqRemoveNextIrp(&Port->Reads, NULL)) != NULL) {
         ULONG Length = IoGetCurrentIrpStackLocation(Irp)->Parameters.Read.Length;
-        SerialComplete(Irp, STATUS_SUCCESS, TakeReceived(Port, Irp->AssociatedIrp.SystemBuffer, Length));
+        SerialComplete(Irp, STATUS_SUCCESS,
+                       TakeReceived(Port, Irp->AssociatedIrp.SystemBuffer, Length));
     }
 }
 
 static KDEFERRED_ROUTINE SerialTick;
-static VOID NTAPI SerialTick(PKDPC Dpc, PVOID DeferredContext, PVOID SystemArgument1, PVOID SystemArgument2) {
+static VOID NTAPI SerialTick(PKDPC Dpc, PVOID DeferredContext, PVOID SystemArgument1,
+                             PVOID SystemArgument2) {
     PPORT Port = DeferredContext;
     KLOCK_QUEUE_HANDLE Handle;
     PIRP Irp;
@@ -207,8 +210,9 @@ NTSTATUS NTAPI DriverEntry(PDRIVER_OBJECT DriverObject, PUNICODE_STRING Registry
     DECLARE_CONST_UNICODE_STRING(Name, L"\\Device\\LoopBack0");
     PDEVICE_OBJECT DeviceObject;
     PPORT Port;
-    NTSTATUS Status = IoCreateDevice(DriverObject, sizeof(PORT), (PUNICODE_STRING)(ULONG_PTR)&Name,
-                                     FILE_DEVICE_SERIAL_PORT, FILE_DEVICE_SECURE_OPEN, FALSE, &DeviceObject);
+    NTSTATUS Status =
+        IoCreateDevice(DriverObject, sizeof(PORT), (PUNICODE_STRING)(ULONG_PTR)&Name,
+                       FILE_DEVICE_SERIAL_PORT, FILE_DEVICE_SECURE_OPEN, FALSE, &DeviceObject);
     UNREFERENCED_PARAMETER(RegistryPath);
     if (!NT_SUCCESS(Status)) {
         return Status;
@@ -217,7 +221,8 @@ NTSTATUS NTAPI DriverEntry(PDRIVER_OBJECT DriverObject, PUNICODE_STRING Registry
     Port = DeviceObject->DeviceExtension;
     KeInitializeSpinLock(&Port->Lock);
     InitializeListHead(&Port->ReadList);
-    IoCsqInitializeEx(&Port->Reads, SerialInsert, SerialRemove, SerialPeek, SerialLock, SerialUnlock, SerialCanceled);
+    IoCsqInitializeEx(&Port->Reads, SerialInsert, SerialRemove, SerialPeek, SerialLock,
+                      SerialUnlock, SerialCanceled);
     StartPolling(Port);
     DriverObject->DriverUnload = SerialUnload;
     DriverObject->MajorFunction[IRP_MJ_CREATE] = SerialOpen;

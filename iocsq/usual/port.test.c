@@ -1,4 +1,5 @@
-/* What the callbacks of port.c mean: a peek context of its own, for reads whose deadline is over. */
+/* What the callbacks of port.c mean: a peek context of its own, for reads whose deadline is
+ * over. */
 #include "iocsq_test.h"
 
 BOOLEAN SerialIsWanted(PIRP Irp, PVOID PeekContext);

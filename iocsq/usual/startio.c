@@ -1,5 +1,6 @@
-/* A device that works at one request at a time: one that comes while it is idle is started at once, which the insert
- * callback says by a refusal, and the others wait. Its timer's DPC ends a request, and starts the next. */
+/* A device that works at one request at a time: one that comes while it is idle is started at once,
+ * which the insert callback says by a refusal, and the others wait. Its timer's DPC ends a request,
+ * and starts the next. */
 #include <ntddk.h>
 #include <csq.h>
 
@@ -56,7 +57,8 @@ static PIRP NTAPI Peek(PIO_CSQ Csq, PIRP Irp, PVOID PeekContext) {
     PLIST_ENTRY Entry = Irp ? Irp->Tail.Overlay.ListEntry.Flink : Of(Csq)->Waiting.Flink;
     for (; Entry != &Of(Csq)->Waiting; Entry = Entry->Flink) {
         PIRP Next = CONTAINING_RECORD(Entry, IRP, Tail.Overlay.ListEntry);
-        if (PeekContext == NULL || PeekContext == (PVOID)IoGetCurrentIrpStackLocation(Next)->FileObject) {
+        if (PeekContext == NULL ||
+            PeekContext == (PVOID)IoGetCurrentIrpStackLocation(Next)->FileObject) {
             return Next;
         }
     }
@@ -65,7 +67,8 @@ static PIRP NTAPI Peek(PIO_CSQ Csq, PIRP Irp, PVOID PeekContext) {
 
 static VOID NTAPI Lock(PIO_CSQ Csq, PKIRQL Irql) {
 #if WRONG == 1
-    KeAcquireInStackQueuedSpinLock(&Of(Csq)->Lock, &Of(Csq)->Handle); /* one handle for all threads */
+    /* One handle for all threads. */
+    KeAcquireInStackQueuedSpinLock(&Of(Csq)->Lock, &Of(Csq)->Handle);
     *Irql = Of(Csq)->Handle.OldIrql;
 #else
     KeAcquireSpinLock(&Of(Csq)->Lock, Irql);
@@ -90,7 +93,8 @@ static VOID NTAPI Canceled(PIO_CSQ Csq, PIRP Irp) {
 static VOID StartIo(PDEVICE_OBJECT DeviceObject, PIRP Irp) {
     PEXTENSION Extension = DeviceObject->DeviceExtension;
     LARGE_INTEGER Soon;
-    Soon.QuadPart = IoGetCurrentIrpStackLocation(Irp)->MajorFunction == IRP_MJ_READ ? -1000LL : -500LL;
+    Soon.QuadPart =
+        IoGetCurrentIrpStackLocation(Irp)->MajorFunction == IRP_MJ_READ ? -1000LL : -500LL;
     KeSetTimer(&Extension->Work, Soon, &Extension->Done);
 }
 
@@ -111,11 +115,13 @@ static ULONG InsertsOf(PEXTENSION Extension) {
     return Inserts;
 }
 
-/* Makes the device idle, unless more IRPs were listed meanwhile than these: such a one waits for this DPC. */
+/* Makes the device idle, unless more IRPs were listed meanwhile than these: such a one waits for
+ * this DPC. */
 static BOOLEAN BecomesIdle(PEXTENSION Extension, ULONG Inserts) {
     BOOLEAN Idle;
     KeAcquireSpinLockAtDpcLevel(&Extension->Lock);
-    Idle = WRONG == 3 || (WRONG == 2 ? IsListEmpty(&Extension->Waiting) : Extension->Inserts == Inserts);
+    Idle = WRONG == 3 ||
+           (WRONG == 2 ? IsListEmpty(&Extension->Waiting) : Extension->Inserts == Inserts);
     if (Idle) {
         Extension->Self->CurrentIrp = NULL;
     }
@@ -123,8 +129,9 @@ static BOOLEAN BecomesIdle(PEXTENSION Extension, ULONG Inserts) {
     return Idle;
 }
 
-/* The next one, or null and the device is idle. What is still listed then is a canceller's. This DPC doesn't wait for a
- * canceller to take its IRP out: that may be the thread that it has interrupted. */
+/* The next one, or null and the device is idle. What is still listed then is a canceller's. This
+ * DPC doesn't wait for a canceller to take its IRP out: that may be the thread that it has
+ * interrupted. */
 static PIRP NextOrIdle(PEXTENSION Extension) {
     for (;;) {
         ULONG Inserts = InsertsOf(Extension);
@@ -139,7 +146,8 @@ static PIRP NextOrIdle(PEXTENSION Extension) {
     }
 }
 
-static VOID NTAPI WorkDone(PKDPC Dpc, PVOID DeferredContext, PVOID SystemArgument1, PVOID SystemArgument2) {
+static VOID NTAPI WorkDone(PKDPC Dpc, PVOID DeferredContext, PVOID SystemArgument1,
+                           PVOID SystemArgument2) {
     PDEVICE_OBJECT DeviceObject = DeferredContext;
     PEXTENSION Extension = DeviceObject->DeviceExtension;
     PIRP Irp = DeviceObject->CurrentIrp;
@@ -162,7 +170,8 @@ static NTSTATUS NTAPI Open(PDEVICE_OBJECT DeviceObject, PIRP Irp) {
 static NTSTATUS NTAPI ReadWrite(PDEVICE_OBJECT DeviceObject, PIRP Irp) {
     PEXTENSION Extension = DeviceObject->DeviceExtension;
     NTSTATUS Status;
-    IoMarkIrpPending(Irp); /* before another thread may have it: from here on the answer is STATUS_PENDING */
+    IoMarkIrpPending(Irp); /* before another thread may have it: from here on the answer is
+                            * STATUS_PENDING */
     Status = IoCsqInsertIrpEx(&Extension->Csq, Irp, NULL, NULL);
     if (Status == STATUS_UNSUCCESSFUL) {
         StartIo(DeviceObject, Irp);
@@ -194,8 +203,8 @@ static VOID NTAPI Unload(PDRIVER_OBJECT DriverObject) {
 NTSTATUS NTAPI DriverEntry(PDRIVER_OBJECT DriverObject, PUNICODE_STRING RegistryPath) {
     PDEVICE_OBJECT DeviceObject;
     PEXTENSION Extension;
-    NTSTATUS Status =
-        IoCreateDevice(DriverObject, sizeof(EXTENSION), NULL, FILE_DEVICE_UNKNOWN, 0, FALSE, &DeviceObject);
+    NTSTATUS Status = IoCreateDevice(DriverObject, sizeof(EXTENSION), NULL, FILE_DEVICE_UNKNOWN, 0,
+                                     FALSE, &DeviceObject);
     UNREFERENCED_PARAMETER(RegistryPath);
     if (!NT_SUCCESS(Status)) {
         return Status;
@@ -210,7 +219,8 @@ NTSTATUS NTAPI DriverEntry(PDRIVER_OBJECT DriverObject, PUNICODE_STRING Registry
     IoCsqInitializeEx(&Extension->Csq, InsertOrStart, Remove, Peek, Lock, Unlock, Canceled);
     DriverObject->DriverUnload = Unload;
     DriverObject->MajorFunction[IRP_MJ_CREATE] = DriverObject->MajorFunction[IRP_MJ_CLOSE] = Open;
-    DriverObject->MajorFunction[IRP_MJ_READ] = DriverObject->MajorFunction[IRP_MJ_WRITE] = ReadWrite;
+    DriverObject->MajorFunction[IRP_MJ_READ] = DriverObject->MajorFunction[IRP_MJ_WRITE] =
+        ReadWrite;
     DriverObject->MajorFunction[IRP_MJ_CLEANUP] = Cleanup;
     return STATUS_SUCCESS;
 }

@@ -1,5 +1,5 @@
-/* A worker of the system serves the requests: the first that comes queues a work item, which goes on until none waits.
- * Rundown protection lets the driver go only once the worker has ended. */
+/* A worker of the system serves the requests: the first that comes queues a work item, which goes
+ * on until none waits. Rundown protection lets the driver go only once the worker has ended. */
 #include <wdm.h>
 #include <csq.h>
 
@@ -51,7 +51,8 @@ static PIRP NTAPI Peek(PIO_CSQ Csq, PIRP Irp, PVOID PeekContext) {
     PLIST_ENTRY Entry = Irp == NULL ? State->List.Flink : Irp->Tail.Overlay.ListEntry.Flink;
     while (Entry != &State->List) {
         PIRP Candidate = CONTAINING_RECORD(Entry, IRP, Tail.Overlay.ListEntry);
-        if (PeekContext == NULL || PeekContext == IoGetCurrentIrpStackLocation(Candidate)->FileObject) {
+        if (PeekContext == NULL ||
+            PeekContext == IoGetCurrentIrpStackLocation(Candidate)->FileObject) {
             return Candidate;
         }
         Entry = Entry->Flink;
@@ -94,8 +95,9 @@ static BOOLEAN BecomesActive(PEXTENSION Extension) {
     return InterlockedCompareExchange(&Extension->Active, 1, 0) == 0;
 }
 
-/* Those that come as the worker ends may have found it active, so it looks once more after that. If there is one, this
- * worker goes on, unless another has been queued by then, which serves the rest. */
+/* Those that come as the worker ends may have found it active, so it looks once more after that. If
+ * there is one, this worker goes on, unless another has been queued by then, which serves the
+ * rest. */
 static VOID NTAPI WorkOff(PDEVICE_OBJECT DeviceObject, PVOID Context) {
     PEXTENSION Extension = DeviceObject->DeviceExtension;
     PIRP Irp;
@@ -139,8 +141,8 @@ static NTSTATUS NTAPI ReadWrite(PDEVICE_OBJECT DeviceObject, PIRP Irp) {
 static NTSTATUS NTAPI Cleanup(PDEVICE_OBJECT DeviceObject, PIRP Irp) {
     PEXTENSION Extension = DeviceObject->DeviceExtension;
     PIRP Waiting;
-    while ((Waiting = IoCsqRemoveNextIrp(&Extension->State->Queue, IoGetCurrentIrpStackLocation(Irp)->FileObject)) !=
-           NULL) {
+    while ((Waiting = IoCsqRemoveNextIrp(&Extension->State->Queue,
+                                         IoGetCurrentIrpStackLocation(Irp)->FileObject)) != NULL) {
         Finish(Waiting, STATUS_CANCELLED, 0);
     }
     return Finish(Irp, STATUS_SUCCESS, 0);
@@ -167,8 +169,8 @@ static VOID NTAPI Unload(PDRIVER_OBJECT DriverObject) {
 NTSTATUS NTAPI DriverEntry(PDRIVER_OBJECT DriverObject, PUNICODE_STRING RegistryPath) {
     PDEVICE_OBJECT DeviceObject;
     PEXTENSION Extension;
-    NTSTATUS Status =
-        IoCreateDevice(DriverObject, sizeof(EXTENSION), NULL, FILE_DEVICE_UNKNOWN, 0, FALSE, &DeviceObject);
+    NTSTATUS Status = IoCreateDevice(DriverObject, sizeof(EXTENSION), NULL, FILE_DEVICE_UNKNOWN, 0,
+                                     FALSE, &DeviceObject);
     UNREFERENCED_PARAMETER(RegistryPath);
     if (!NT_SUCCESS(Status)) {
         return Status;
@@ -176,7 +178,8 @@ NTSTATUS NTAPI DriverEntry(PDRIVER_OBJECT DriverObject, PUNICODE_STRING Registry
     Extension = DeviceObject->DeviceExtension;
     ExInitializeRundownProtection(&Extension->Rundown);
     Extension->Worker = IoAllocateWorkItem(DeviceObject);
-    Extension->State = ExAllocatePoolWithTag(WRONG == 2 ? PagedPool : NonPagedPoolNx, sizeof(STATE), POOL_TAG);
+    Extension->State =
+        ExAllocatePoolWithTag(WRONG == 2 ? PagedPool : NonPagedPoolNx, sizeof(STATE), POOL_TAG);
     if (Extension->Worker == NULL || Extension->State == NULL) {
         FreeExtension(DeviceObject);
         return STATUS_INSUFFICIENT_RESOURCES;
@@ -187,7 +190,8 @@ NTSTATUS NTAPI DriverEntry(PDRIVER_OBJECT DriverObject, PUNICODE_STRING Registry
     DeviceObject->Flags |= DO_BUFFERED_IO;
     DriverObject->DriverUnload = Unload;
     DriverObject->MajorFunction[IRP_MJ_CREATE] = DriverObject->MajorFunction[IRP_MJ_CLOSE] = Open;
-    DriverObject->MajorFunction[IRP_MJ_READ] = DriverObject->MajorFunction[IRP_MJ_WRITE] = ReadWrite;
+    DriverObject->MajorFunction[IRP_MJ_READ] = DriverObject->MajorFunction[IRP_MJ_WRITE] =
+        ReadWrite;
     DriverObject->MajorFunction[IRP_MJ_CLEANUP] = Cleanup;
     return STATUS_SUCCESS;
 }

@@ -1,5 +1,6 @@
-/* A device that transfers one read at a time: the others wait in the queue. The one in transfer is in no queue, and has a
- * cancel routine of the driver's own. A write is the device's interrupt: its first byte fills the read. */
+/* A device that transfers one read at a time: the others wait in the queue. The one in transfer is
+ * in no queue, and has a cancel routine of the driver's own. A write is the device's interrupt: its
+ * first byte fills the read. */
 #include <ntddk.h>
 #include <csq.h>
 
@@ -99,7 +100,8 @@ static VOID NTAPI CompleteWaiting(PIO_CSQ Csq, PIRP Irp) {
 }
 
 /* ---- The transfer ---- */
-/* Sets the cancel routine. FALSE: a cancel that came before found none, so the caller completes the read. */
+/* Sets the cancel routine. FALSE: a cancel that came before found none, so the caller completes the
+ * read. */
 static BOOLEAN BeginTransfer(PIRP Irp) {
     IoSetCancelRoutine(Irp, CancelTransfer);
 #if WRONG == 1
@@ -128,14 +130,15 @@ static VOID Start(PEXTENSION Extension) {
     } while (Irp != NULL && !Begun);
 }
 
-/* Ends the transfer, if it is one of this file object or File is null, and returns its read. Null: there is none, or a
- * canceller has it. */
+/* Ends the transfer, if it is one of this file object or File is null, and returns its read. Null:
+ * there is none, or a canceller has it. */
 static PIRP Stop(PEXTENSION Extension, PFILE_OBJECT File) {
     KIRQL Irql;
     PIRP Irp;
     KeAcquireSpinLock(&Extension->TransferLock, &Irql);
     Irp = Extension->Current;
-    if (Irp != NULL && ((File != NULL && FileOf(Irp) != File) || IoSetCancelRoutine(Irp, NULL) == NULL)) {
+    if (Irp != NULL &&
+        ((File != NULL && FileOf(Irp) != File) || IoSetCancelRoutine(Irp, NULL) == NULL)) {
         Irp = NULL;
     }
     if (Irp != NULL) {
@@ -199,7 +202,8 @@ static NTSTATUS NTAPI Write(PDEVICE_OBJECT DeviceObject, PIRP Irp) {
             RtlFillMemory(Ended->AssociatedIrp.SystemBuffer, WRONG == 3 ? 1 : Length, Byte);
         }
 #if WRONG == 7
-        CompleteRead(Ended, STATUS_BUFFER_OVERFLOW, (ULONG_PTR)Length + 1); /* a warning: the bytes are copied too */
+        /* A warning: the bytes are copied too. */
+        CompleteRead(Ended, STATUS_BUFFER_OVERFLOW, (ULONG_PTR)Length + 1);
 #else
         CompleteRead(Ended, STATUS_SUCCESS, Length);
 #endif
@@ -242,8 +246,8 @@ static VOID NTAPI Unload(PDRIVER_OBJECT DriverObject) {
 NTSTATUS NTAPI DriverEntry(PDRIVER_OBJECT DriverObject, PUNICODE_STRING RegistryPath) {
     PDEVICE_OBJECT DeviceObject;
     PEXTENSION Extension;
-    NTSTATUS Status =
-        IoCreateDevice(DriverObject, sizeof(EXTENSION), NULL, FILE_DEVICE_UNKNOWN, 0, FALSE, &DeviceObject);
+    NTSTATUS Status = IoCreateDevice(DriverObject, sizeof(EXTENSION), NULL, FILE_DEVICE_UNKNOWN, 0,
+                                     FALSE, &DeviceObject);
     UNREFERENCED_PARAMETER(RegistryPath);
     if (!NT_SUCCESS(Status)) {
         return Status;
@@ -252,10 +256,11 @@ NTSTATUS NTAPI DriverEntry(PDRIVER_OBJECT DriverObject, PUNICODE_STRING Registry
     KeInitializeSpinLock(&Extension->Lock);
     KeInitializeSpinLock(&Extension->TransferLock);
     InitializeListHead(&Extension->Waiting);
-    IoCsqInitializeEx(&Extension->Csq, InsertWaiting, RemoveWaiting, PeekWaiting, LockWaiting, UnlockWaiting,
-                      CompleteWaiting);
+    IoCsqInitializeEx(&Extension->Csq, InsertWaiting, RemoveWaiting, PeekWaiting, LockWaiting,
+                      UnlockWaiting, CompleteWaiting);
     DriverObject->DriverUnload = Unload;
-    DriverObject->MajorFunction[IRP_MJ_CREATE] = DriverObject->MajorFunction[IRP_MJ_CLOSE] = Succeed;
+    DriverObject->MajorFunction[IRP_MJ_CREATE] = DriverObject->MajorFunction[IRP_MJ_CLOSE] =
+        Succeed;
     DriverObject->MajorFunction[IRP_MJ_READ] = Read;
     DriverObject->MajorFunction[IRP_MJ_WRITE] = Write;
     DriverObject->MajorFunction[IRP_MJ_CLEANUP] = Cleanup;

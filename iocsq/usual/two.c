@@ -1,5 +1,5 @@
-/* Two queues: a read and a write of a file object wait for each other. Both queues have the same callbacks and a lock
- * each; a fast mutex keeps two threads from pairing the same ones. */
+/* Two queues: a read and a write of a file object wait for each other. Both queues have the same
+ * callbacks and a lock each; a fast mutex keeps two threads from pairing the same ones. */
 #include <ntddk.h>
 #include <csq.h>
 
@@ -59,7 +59,8 @@ static VOID NTAPI Remove(PIO_CSQ Csq, PIRP Irp) {
 static PIRP NTAPI Peek(PIO_CSQ Csq, PIRP Irp, PVOID PeekContext) {
     PLIST_ENTRY Entry = Irp ? Irp->Tail.Overlay.ListEntry.Flink : QueueOf(Csq)->Irps.Flink;
     UNREFERENCED_PARAMETER(PeekContext);
-    return Entry == &QueueOf(Csq)->Irps ? NULL : CONTAINING_RECORD(Entry, IRP, Tail.Overlay.ListEntry);
+    return Entry == &QueueOf(Csq)->Irps ? NULL
+                                        : CONTAINING_RECORD(Entry, IRP, Tail.Overlay.ListEntry);
 }
 
 static VOID NTAPI Lock(PIO_CSQ Csq, PKIRQL Irql) {
@@ -122,7 +123,8 @@ static VOID Dereference(PCHANNEL Channel) {
 static NTSTATUS Enqueue(PIRP Irp, int Which) {
     PCHANNEL Channel = ChannelOf(Irp);
     NTSTATUS Status;
-    InterlockedIncrement(&Channel->References); /* the request may be completed, and the file object closed */
+    InterlockedIncrement(&Channel->References); /* the request may be completed, and the file object
+                                                 * closed */
     Status = IoCsqInsertIrpEx(&Channel->Queues[Which].Csq, Irp, NULL, NULL);
     if (NT_SUCCESS(Status)) {
         Pair(Channel);
@@ -214,7 +216,8 @@ NTSTATUS NTAPI DriverEntry(PDRIVER_OBJECT DriverObject, PUNICODE_STRING Registry
                      { IRP_MJ_CLOSE, CloseFile } };
     PDEVICE_OBJECT DeviceObject;
     ULONG At;
-    NTSTATUS Status = IoCreateDevice(DriverObject, 0, NULL, FILE_DEVICE_NAMED_PIPE, 0, FALSE, &DeviceObject);
+    NTSTATUS Status =
+        IoCreateDevice(DriverObject, 0, NULL, FILE_DEVICE_NAMED_PIPE, 0, FALSE, &DeviceObject);
     UNREFERENCED_PARAMETER(RegistryPath);
     if (!NT_SUCCESS(Status)) {
         return Status;

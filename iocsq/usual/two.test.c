@@ -1,4 +1,5 @@
-/* What the callbacks of two.c mean: a peek context is any. A request may wait for one of the other kind. */
+/* What the callbacks of two.c mean: a peek context is any. A request may wait for one of the other
+ * kind. */
 #include "iocsq_test.h"
 
 static BOOLEAN Match(PIRP Irp, PVOID PeekContext) {

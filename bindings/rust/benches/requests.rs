@@ -1,5 +1,6 @@
-//! What a job costs through a queue of requests: beside the bare cycle of its queue in one thread, and beside std's
-//! `sync_channel` of as many places with one submitter and several workers. Each row is the median of seven runs.
+//! What a job costs through a queue of requests: beside the bare cycle of its queue in one thread,
+//! and beside std's `sync_channel` of as many places with one submitter and several workers. Each
+//! row is the median of seven runs.
 //!
 //! `cargo bench`, with `CSQ_LIBRARY` or a feature that links the library.
 use csq::{FinalStatus, Inserted, Irp, List, Peek, Place, Queue, Requests, Size, SubmitError};
@@ -121,7 +122,8 @@ fn main() {
     for workers in [1, 2, 4, 8] {
         let (ours, theirs) = (median(|| requests(workers)), median(|| channel(workers)));
         println!(
-            "{workers} workers: a request {ours:.0} ns, a job of the channel {theirs:.0} ns, {:.2} times",
+            "{workers} workers: a request {ours:.0} ns, a job of the channel {theirs:.0} ns, \
+             {:.2} times",
             ours / theirs
         );
     }

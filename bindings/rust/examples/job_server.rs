@@ -1,5 +1,6 @@
-//! A server of jobs: clients connect, send jobs and go, also while their jobs are queued; a pool of workers serves the
-//! jobs of all, and looks whether one that takes long is still wanted; a job that finds its device busy is put back.
+//! A server of jobs: clients connect, send jobs and go, also while their jobs are queued; a pool of
+//! workers serves the jobs of all, and looks whether one that takes long is still wanted; a job
+//! that finds its device busy is put back.
 //!
 //! `cargo run --example job_server` prints what became of the jobs.
 use csq::{
@@ -78,7 +79,8 @@ impl Device {
 fn serve(request: OwnedRequest<Job>, device: &Device, totals: &Totals) {
     let needs_device = request.value().number % 7 == 0;
     if needs_device && !device.run(|| thread::sleep(Duration::from_micros(200))) {
-        // The device is busy: the job goes to the end of the list, unless its client has cancelled it meanwhile.
+        // The device is busy: the job goes to the end of the list, unless its client has cancelled
+        // it meanwhile.
         match request.put_back(Place::Back) {
             Ok(PutBack::Pending) => thread::yield_now(),
             Ok(PutBack::Cancelled(job)) => totals.cancel(job),
@@ -92,7 +94,8 @@ fn serve(request: OwnedRequest<Job>, device: &Device, totals: &Totals) {
     }
 }
 
-/// Sends jobs for its connection, cancels some of them, and leaves while some are queued. Returns how many it has sent.
+/// Sends jobs for its connection, cancels some of them, and leaves while some are queued. Returns
+/// how many it has sent.
 fn client(pass: &OwnedPass<Job>, connection: u32, totals: &Totals) -> u32 {
     let (answer, answers) = mpsc::channel();
     let mut last: Option<RequestId> = None;
@@ -152,8 +155,9 @@ fn main() -> Result<(), Box<dyn std::error::Error>> {
         let connections = (0..CONNECTIONS).map(|connection| {
             let pass = pass.clone();
             scope.spawn(move || {
-                // One client after the other: the file object is used again once what was listed for it is drained. A job
-                // that a worker puts back after that is listed for the next client, and its answer is nobody's.
+                // One client after the other: the file object is used again once what was listed
+                // for it is drained. A job that a worker puts back after that is listed for the
+                // next client, and its answer is nobody's.
                 for _ in 0..CLIENTS / CONNECTIONS {
                     sent.fetch_add(client(&pass, connection, totals), SeqCst);
                     let left = pass.drain(Peek::File(connection)).expect("a connection");

@@ -6,7 +6,8 @@ use crate::raw;
 use std::error::Error;
 use std::fmt;
 
-/// A value that only its owner reaches, so that an error with it may be shared by threads though the value may not.
+/// A value that only its owner reaches, so that an error with it may be shared by threads though
+/// the value may not.
 struct Unshared<T>(T);
 
 // SAFETY: no reference to this gives one to the value.
@@ -57,7 +58,8 @@ refusal!(PassError {
     NoMemory => "memory was refused",
 });
 
-/// Why an insert is refused, in the order in which the causes are tested. The IRP stays with the caller.
+/// Why an insert is refused, in the order in which the causes are tested. The IRP stays with the
+/// caller.
 #[derive(Clone, Copy, Debug, PartialEq, Eq, Hash)]
 #[non_exhaustive]
 pub enum InsertError {
@@ -72,7 +74,8 @@ pub enum InsertError {
     /// As many IRPs are listed for the file object as its own limit allows. A driver returns
     /// `STATUS_INSUFFICIENT_RESOURCES`.
     FileFull,
-    /// As many IRPs are listed as the limit allows. A driver returns `STATUS_INSUFFICIENT_RESOURCES`.
+    /// As many IRPs are listed as the limit allows. A driver returns
+    /// `STATUS_INSUFFICIENT_RESOURCES`.
     Full,
 }
 
@@ -106,7 +109,8 @@ impl InsertError {
 pub enum PutBackError {
     /// The file object was closed in the meantime. Its cleanup would have cancelled the IRP.
     FileClosed,
-    /// As many IRPs are listed for the file object as its own limit allows: others were inserted in the meantime.
+    /// As many IRPs are listed for the file object as its own limit allows: others were inserted in
+    /// the meantime.
     FileFull,
     /// As many IRPs are listed as the limit allows.
     Full,
@@ -119,8 +123,8 @@ refusal!(PutBackError {
 });
 
 impl PutBackError {
-    /// The cause that `csq_put_back` returned as this code. A token is of what its pass holds, so what is refused is
-    /// refused for its file object or for the list alone.
+    /// The cause that `csq_put_back` returned as this code. A token is of what its pass holds, so
+    /// what is refused is refused for its file object or for the list alone.
     pub(crate) fn of(code: u32) -> PutBackError {
         match code {
             raw::FILE_CLOSED => PutBackError::FileClosed,
@@ -131,7 +135,8 @@ impl PutBackError {
     }
 }
 
-/// What wasn't put back: a token ([`Removed`](crate::Removed)) or a request ([`Request`](crate::Request)). It comes back.
+/// What wasn't put back: a token ([`Removed`](crate::Removed)) or a request
+/// ([`Request`](crate::Request)). It comes back.
 pub struct NotPutBack<R> {
     /// What the pass holds as before. Dropped, it is completed with `STATUS_CANCELLED`.
     pub held: R,
@@ -234,7 +239,8 @@ impl fmt::Display for NotListed {
 
 impl Error for NotListed {}
 
-/// A pass that wasn't given back, since it holds or owes IRPs whose tokens were forgotten. It comes back.
+/// A pass that wasn't given back, since it holds or owes IRPs whose tokens were forgotten. It comes
+/// back.
 ///
 /// ```
 /// # use csq::Pass;
@@ -328,7 +334,8 @@ pub enum SubmitError {
     /// As many requests are listed for the file object as its own limit allows. A driver returns
     /// `STATUS_INSUFFICIENT_RESOURCES`.
     FileFull,
-    /// As many requests are listed as the limit allows. A driver returns `STATUS_INSUFFICIENT_RESOURCES`.
+    /// As many requests are listed as the limit allows. A driver returns
+    /// `STATUS_INSUFFICIENT_RESOURCES`.
     Full,
 }
 
@@ -414,7 +421,8 @@ impl<T> fmt::Display for Refused<T> {
 
 impl<T> Error for Refused<T> {}
 
-/// By `?`, if the value isn't wanted back, or isn't `Send` or `'static`, as part of an error has to be.
+/// By `?`, if the value isn't wanted back, or isn't `Send` or `'static`, as part of an error has to
+/// be.
 impl<T> From<Refused<T>> for SubmitError {
     fn from(refused: Refused<T>) -> SubmitError {
         refused.cause

@@ -1,14 +1,15 @@
-//! The cancel-safe IRP queue of Windows drivers, as Microsoft's WDK describes it (`IoCsqInsertIrpEx`,
-//! `IoCsqRemoveNextIrp`, `IoCsqRemoveIrp`, `IoSetCancelRoutine`, `IoCancelIrp`, `IRP_MJ_CLEANUP`): safe bindings of the C
-//! library that `include/csq.h` describes.
+//! The cancel-safe IRP queue of Windows drivers, as Microsoft's WDK describes it
+//! (`IoCsqInsertIrpEx`, `IoCsqRemoveNextIrp`, `IoCsqRemoveIrp`, `IoSetCancelRoutine`,
+//! `IoCancelIrp`, `IRP_MJ_CLEANUP`): safe bindings of the C library that `include/csq.h` describes.
 //!
-//! A [`Queue`] hands out a [`Pass`] for each thread that inserts, removes, cancels or completes. What a pass has to
-//! complete is a token ([`Removed`], [`Cancelled`], [`Claim`]): it borrows its pass, and one that is dropped completes
-//! its IRP with `STATUS_CANCELLED`. What was removed may be put back instead ([`Removed::put_back`]). So once a queue is
-//! closed, each IRP that an insert accepted was completed once or is listed.
+//! A [`Queue`] hands out a [`Pass`] for each thread that inserts, removes, cancels or completes.
+//! What a pass has to complete is a token ([`Removed`], [`Cancelled`], [`Claim`]): it borrows its
+//! pass, and one that is dropped completes its IRP with `STATUS_CANCELLED`. What was removed may be
+//! put back instead ([`Removed::put_back`]). So once a queue is closed, each IRP that an insert
+//! accepted was completed once or is listed.
 //!
-//! [`Requests`] is such a queue of values: it takes an IRP for each, and hands each value over once. Workers wait for the
-//! next one, and threads may share a pass of it ([`OwnedPass`]).
+//! [`Requests`] is such a queue of values: it takes an IRP for each, and hands each value over
+//! once. Workers wait for the next one, and threads may share a pass of it ([`OwnedPass`]).
 //!
 //! ```
 //! use csq::{FinalStatus, Inserted, Peek, Place, Queue, Size};
@@ -48,10 +49,11 @@
 //! # }
 //! ```
 //!
-//! What the C header asks of its caller is upheld here: each call on a queue is made under its lock, a pass has a share
-//! of its queue and is used with no other, and no thread uses a pass beside another one. What is left to the program:
-//! `malloc`, `realloc` and `free` are of one allocator and may be called by several threads at once, and no call is made
-//! in a signal handler, in the forked child of a process with threads, or with less than a few kilobytes of the stack
+//! What the C header asks of its caller is upheld here: each call on a queue is made under its
+//! lock, a pass has a share of its queue and is used with no other, and no thread uses a pass
+//! beside another one. What is left to the program: `malloc`, `realloc` and `free` are of one
+//! allocator and may be called by several threads at once, and no call is made in a signal handler,
+//! in the forked child of a process with threads, or with less than a few kilobytes of the stack
 //! left.
 //!
 //! A pass can't be shared by threads,
@@ -91,17 +93,19 @@
 //!
 //! The first of these that there is:
 //!
-//! 1. The variable `CSQ_LIBRARY` of the environment names the library's archives, in the linker's order, with colons
-//!    between them. A relative path is of the folder from which the build is started.
+//! 1. The variable `CSQ_LIBRARY` of the environment names the library's archives, in the linker's
+//!    order, with colons between them. A relative path is of the folder from which the build is
+//!    started.
 //! 2. `pkg-config` finds an installed library (`c/install`).
-//! 3. The feature `plain` builds the plain C queue by the C compiler (`CC`, else `cc`), in a clone of the repository.
-//!    Nothing of it is proved.
+//! 3. The feature `plain` builds the plain C queue by the C compiler (`CC`, otherwise `cc`), in a
+//!    clone of the repository. Nothing of it is proved.
 //!
 //! Without any a build warns, and no program links. The crate's own tests turn `plain` on.
 //!
 //! # Features
 //!
-//! `plain`: as above. `async`: `OwnedPass::recv_async` and `OwnedRequest::cancelled`, futures for any executor.
+//! `plain`: as above. `async`: `OwnedPass::recv_async` and `OwnedRequest::cancelled`, futures for
+//! any executor.
 #![deny(
     missing_docs,
     unsafe_op_in_unsafe_fn,

@@ -5,7 +5,8 @@ use crate::requests::{Free, Waiting};
 use std::hint::spin_loop;
 use std::sync::{Mutex, MutexGuard, PoisonError, TryLockError};
 
-/// The queue's handle, and what a queue of requests has beside it, so that each of its calls takes one lock.
+/// The queue's handle, and what a queue of requests has beside it, so that each of its calls takes
+/// one lock.
 pub(crate) struct Locked {
     pub(crate) queue: RawQueue,
     /// None in a queue without values.
@@ -14,14 +15,15 @@ pub(crate) struct Locked {
     pub(crate) waiting: Waiting,
 }
 
-/// How often a thread tries the lock again before it sleeps, and for how many spin-loop hints it pauses before the first
-/// and, at most, before the last of these tries: as the proved queue waits (`docs/DECISIONS.md`).
+/// How often a thread tries the lock again before it sleeps, and for how many spin-loop hints it
+/// pauses before the first and, at most, before the last of these tries: as the proved queue waits
+/// (`docs/DECISIONS.md`).
 const TRIES: u32 = 11;
 const FIRST_PAUSE: u32 = 128;
 const LONGEST_PAUSE: u32 = 1024;
 
-/// Locks, whether or not a thread has panicked with the lock: no code of the caller runs while it is locked, so what it
-/// guards is whole.
+/// Locks, whether or not a thread has panicked with the lock: no code of the caller runs while it
+/// is locked, so what it guards is whole.
 #[inline]
 pub(crate) fn lock(mutex: &Mutex<Locked>) -> MutexGuard<'_, Locked> {
     match mutex.try_lock() {

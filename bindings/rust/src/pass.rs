@@ -16,19 +16,20 @@ use std::cell::UnsafeCell;
 use std::fmt;
 use std::sync::{Arc, MutexGuard};
 
-/// A pass of a queue, through which one thread at a time makes its calls. It has a share of its queue, so it can be
-/// used with no other.
+/// A pass of a queue, through which one thread at a time makes its calls. It has a share of its
+/// queue, so it can be used with no other.
 ///
-/// A pass may be moved to another thread, but not be shared by two: its tokens borrow it, and a thread may have several
-/// of them. Dropped, it is given back, once what it still holds or owes was completed with `STATUS_CANCELLED` (which is
-/// nothing, unless a token was forgotten by [`std::mem::forget`]).
+/// A pass may be moved to another thread, but not be shared by two: its tokens borrow it, and a
+/// thread may have several of them. Dropped, it is given back, once what it still holds or owes was
+/// completed with `STATUS_CANCELLED` (which is nothing, unless a token was forgotten by
+/// [`std::mem::forget`]).
 pub struct Pass {
     shared: Arc<Shared>,
     handle: UnsafeCell<RawPass>,
 }
 
-// SAFETY: the library lets a pass go from one thread to another by an act that synchronises, as each move of a value to
-// another thread is.
+// SAFETY: the library lets a pass go from one thread to another by an act that synchronises, as
+// each move of a value to another thread is.
 unsafe impl Send for Pass {}
 
 impl fmt::Debug for Pass {
@@ -53,7 +54,8 @@ impl Pass {
         }
     }
 
-    /// What the queue's lock guards. The calls below whose names end with `_locked` are made with it.
+    /// What the queue's lock guards. The calls below whose names end with `_locked` are made with
+    /// it.
     #[inline]
     pub(crate) fn lock(&self) -> MutexGuard<'_, Locked> {
         self.shared.lock()
@@ -151,14 +153,15 @@ impl Pass {
     /// }
     /// # Ok::<(), Box<dyn std::error::Error>>(())
     /// ```
-    #[must_use = "a removed IRP has to be completed, and is completed as cancelled if it is dropped"]
+    #[must_use = "a removed IRP has to be completed, and is completed as cancelled if it is \
+                  dropped"]
     pub fn remove_next(&self, peek: Peek) -> Option<Removed<'_>> {
         let irp = self.remove_next_locked(&mut self.lock(), peek)?;
         Some(Removed { pass: self, irp })
     }
 
-    /// Removes the IRP of a context (`IoCsqRemoveIrp`). None if it isn't listed in that life, or a canceller has it.
-    /// Takes the lock.
+    /// Removes the IRP of a context (`IoCsqRemoveIrp`). None if it isn't listed in that life, or a
+    /// canceller has it. Takes the lock.
     ///
     /// ```
     /// # use csq::*;
@@ -170,7 +173,8 @@ impl Pass {
     /// }
     /// # Ok::<(), Box<dyn std::error::Error>>(())
     /// ```
-    #[must_use = "a removed IRP has to be completed, and is completed as cancelled if it is dropped"]
+    #[must_use = "a removed IRP has to be completed, and is completed as cancelled if it is \
+                  dropped"]
     pub fn remove(&self, irp: Irp) -> Option<Removed<'_>> {
         // SAFETY: the queue is locked, and this thread alone has the pass.
         let code = self.locked(|queue, pass| unsafe { raw::csq_remove(queue, pass, irp.raw()) });
@@ -201,8 +205,8 @@ impl Pass {
         }
     }
 
-    /// Handles `IRP_MJ_CLEANUP` of a file object: closes it, then does what [`Pass::drain`] does. Answers how many IRPs
-    /// were completed.
+    /// Handles `IRP_MJ_CLEANUP` of a file object: closes it, then does what [`Pass::drain`] does.
+    /// Answers how many IRPs were completed.
     ///
     /// # Errors
     ///
@@ -242,10 +246,11 @@ impl Pass {
         Ok(self.complete_listed(Peek::File(file), before))
     }
 
-    /// Removes each IRP that is listed for a file object, or for any, and completes it with `STATUS_CANCELLED`. Answers
-    /// how many. The file object stays open, so this may go on for as long as others insert or put back. What a canceller
-    /// has is left to that canceller, and is listed until then ([`Queue::file_len`](crate::Queue::file_len)). What was
-    /// removed before is for the file object again if it is put back. The lock is free between two of them.
+    /// Removes each IRP that is listed for a file object, or for any, and completes it with
+    /// `STATUS_CANCELLED`. Answers how many. The file object stays open, so this may go on for as
+    /// long as others insert or put back. What a canceller has is left to that canceller, and is
+    /// listed until then ([`Queue::file_len`](crate::Queue::file_len)). What was removed before is
+    /// for the file object again if it is put back. The lock is free between two of them.
     ///
     /// # Errors
     ///
@@ -303,8 +308,8 @@ impl Pass {
         completed
     }
 
-    /// Begins the next life of an IRP that is completed in the life named, its present one (`IoReuseIrp`), and names it
-    /// in that next life. Takes the lock.
+    /// Begins the next life of an IRP that is completed in the life named, its present one
+    /// (`IoReuseIrp`), and names it in that next life. Takes the lock.
     ///
     /// # Errors
     ///
@@ -326,9 +331,9 @@ impl Pass {
         self.reuse_locked(&mut self.lock(), irp)
     }
 
-    /// Sets the Cancel flag of an IRP in the life named, and takes its cancel routine (the first half of
-    /// `IoCancelIrp`). None if the routine wasn't there: the IRP isn't listed, or a pass, perhaps this one, has it.
-    /// Takes no lock.
+    /// Sets the Cancel flag of an IRP in the life named, and takes its cancel routine (the first
+    /// half of `IoCancelIrp`). None if the routine wasn't there: the IRP isn't listed, or a pass,
+    /// perhaps this one, has it. Takes no lock.
     ///
     /// # Errors
     ///
@@ -352,8 +357,8 @@ impl Pass {
         Ok(found.then(|| Claim { pass: self, irp }))
     }
 
-    /// Cancels an IRP in the life named (`IoCancelIrp`): if its routine was there, runs it and completes the IRP.
-    /// Returns whether it did. Takes the lock only if the routine was there.
+    /// Cancels an IRP in the life named (`IoCancelIrp`): if its routine was there, runs it and
+    /// completes the IRP. Returns whether it did. Takes the lock only if the routine was there.
     ///
     /// # Errors
     ///
@@ -372,7 +377,8 @@ impl Pass {
         self.cancel_with(irp, |_| ())
     }
 
-    /// [`Pass::cancel`], and `before` is called with the IRP before it is completed, if it is completed here.
+    /// [`Pass::cancel`], and `before` is called with the IRP before it is completed, if it is
+    /// completed here.
     ///
     /// # Errors
     ///
@@ -424,7 +430,8 @@ impl Pass {
         }
     }
 
-    /// The life that an IRP's status stands for, and what the IRP was completed with there, once it is. Takes no lock.
+    /// The life that an IRP's status stands for, and what the IRP was completed with there, once it
+    /// is. Takes no lock.
     ///
     /// # Errors
     ///
@@ -450,11 +457,13 @@ impl Pass {
         }
     }
 
-    // Completes what forgotten tokens left: an IRP that a pass holds or owes is in that life until it is completed.
+    // Completes what forgotten tokens left: an IRP that a pass holds or owes is in that life until
+    // it is completed.
     fn settle(&self) {
         let present = |irp| self.is_cancelled(irp).map(|(life, _)| RawIrp { irp, life });
         for irp in (0..self.shared.irps).flat_map(present) {
-            // SAFETY: the queue is locked, and this thread alone has the pass. What isn't owed is refused.
+            // SAFETY: the queue is locked, and this thread alone has the pass. What isn't owed is
+            // refused.
             self.locked(|queue, pass| unsafe { raw::csq_cancel_owed(queue, pass, irp) });
             // SAFETY: this thread alone has the pass. What isn't held is refused.
             unsafe { raw::csq_complete_cancelled(self.handle.get(), irp) };
@@ -464,7 +473,8 @@ impl Pass {
 
 impl Drop for Pass {
     fn drop(&mut self) {
-        // SAFETY: the queue is locked, and this thread alone has the pass. One that was given back is empty.
+        // SAFETY: the queue is locked, and this thread alone has the pass. One that was given back
+        // is empty.
         let back = || self.locked(|queue, pass| unsafe { raw::csq_give_back(queue, pass) });
         let mut code = back();
         if code == raw::HOLDING {

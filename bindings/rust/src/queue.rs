@@ -47,7 +47,8 @@ impl Drop for Shared {
     }
 }
 
-/// A cancel-safe queue, with a lock of its own (a [`Mutex`]). It hands out passes, through which all calls are made.
+/// A cancel-safe queue, with a lock of its own (a [`Mutex`]). It hands out passes, through which
+/// all calls are made.
 pub struct Queue {
     shared: Arc<Shared>,
 }
@@ -80,8 +81,8 @@ impl Queue {
         })
     }
 
-    /// A queue of this size, each file object with a limit of its own: how many IRPs may be listed for it at a time, 1
-    /// to `irps`.
+    /// A queue of this size, each file object with a limit of its own: how many IRPs may be listed
+    /// for it at a time, 1 to `irps`.
     ///
     /// # Errors
     ///
@@ -165,9 +166,10 @@ impl Queue {
         passes_out(&self.shared.lock().queue)
     }
 
-    /// The first listed IRP of a file object, or of any, in its present life: from the first on, or after this one
-    /// (`CsqPeekNextIrp`). It may be one whose cancel routine a canceller has taken, which is listed until that canceller
-    /// has run it. Another thread may remove it as soon as this returns. Takes the lock.
+    /// The first listed IRP of a file object, or of any, in its present life: from the first on, or
+    /// after this one (`CsqPeekNextIrp`). It may be one whose cancel routine a canceller has taken,
+    /// which is listed until that canceller has run it. Another thread may remove it as soon as
+    /// this returns. Takes the lock.
     ///
     /// # Errors
     ///
@@ -351,7 +353,10 @@ impl Closed {
     /// pass.cancel(Irp { irp: 0, life: 0 })?;
     /// drop(pass);
     /// let left = queue.close()?.irp(0).expect("an IRP");
-    /// assert_eq!((left.life, left.cancelled, left.status), (0, true, Some(FinalStatus::CANCELLED)));
+    /// assert_eq!(
+    ///     (left.life, left.cancelled, left.status),
+    ///     (0, true, Some(FinalStatus::CANCELLED))
+    /// );
     /// # Ok::<(), Box<dyn std::error::Error>>(())
     /// ```
     pub fn irp(&self, irp: u32) -> Option<Left> {

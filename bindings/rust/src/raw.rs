@@ -160,8 +160,8 @@ mod tests {
     // A pass has a share of its queue in this crate, so no call meets this code but here.
     const OTHER_QUEUE: u32 = 26;
 
-    // The C header, which stands in the repository and not in the package: `tests/documents.rs`, which isn't in the
-    // package either, asks for it.
+    // The C header, which stands in the repository and not in the package: `tests/documents.rs`,
+    // which isn't in the package either, asks for it.
     fn header() -> Option<String> {
         let header = concat!(env!("CARGO_MANIFEST_DIR"), "/../../include/csq.h");
         std::fs::read_to_string(header).ok()
@@ -210,7 +210,10 @@ mod tests {
     #[test]
     fn the_kinds_of_list_are_those_of_the_header() {
         let vector = crate::Size::AUTO_VECTOR_IRPS;
-        let kinds = format!("enum {{ CSQ_VECTOR = 0, CSQ_CHAINS = 1, CSQ_AUTO = 2, CSQ_AUTO_VECTOR_IRPS = {vector} }};");
+        let kinds = format!(
+            "enum {{ CSQ_VECTOR = 0, CSQ_CHAINS = 1, CSQ_AUTO = 2, \
+             CSQ_AUTO_VECTOR_IRPS = {vector} }};"
+        );
         if let Some(header) = header() {
             assert!(header.contains(&kinds), "{kinds}");
         }

@@ -30,10 +30,11 @@ use std::task::Waker;
 
 /// A cancel-safe queue of requests that carry a value, as an IRP carries its buffers.
 ///
-/// [`RequestPass::submit`] puts a value in for a file object. It comes out once: to whoever takes the request
-/// ([`RequestPass::next`]), to whoever cancels it ([`RequestPass::cancel`]), to the cleanup of its file object
-/// ([`RequestPass::cleanup`]), or to the close of the queue ([`Requests::close`]). Which IRPs stand behind the requests,
-/// and their lives, is the queue's own affair: it takes a free one for each submit.
+/// [`RequestPass::submit`] puts a value in for a file object. It comes out once: to the worker that
+/// takes the request ([`RequestPass::next`]), to the caller that cancels it
+/// ([`RequestPass::cancel`]), to the cleanup of its file object ([`RequestPass::cleanup`]), or to
+/// the close of the queue ([`Requests::close`]). Which IRPs stand behind the requests, and their
+/// lives, is the queue's own affair: it takes a free one for each submit.
 ///
 /// ```
 /// # fn main() -> Result<(), Box<dyn std::error::Error>> {
@@ -43,34 +44,38 @@ use std::task::Waker;
 ///
 /// let first = caller.submit(String::from("first"), 0, Place::Back)?;
 /// caller.submit(String::from("second"), 0, Place::Back)?;
-/// assert_eq!(caller.cancel(first)?, "first");              // the canceller has the value
+/// assert_eq!(caller.cancel(first)?, "first");             // the canceller has the value
 ///
-/// if let Some(mut request) = worker.next(Peek::File(0)) {  // the worker has the next one
+/// if let Some(mut request) = worker.next(Peek::File(0)) { // the worker has the next one
 ///     request.value_mut().push_str(", served");
 ///     assert_eq!(request.complete(), "second, served");
 /// }
 /// caller.submit(String::from("third"), 1, Place::Back)?;
-/// assert_eq!(worker.cleanup(1)?, ["third"]);               // the last handle to file object 1 went
+/// assert_eq!(worker.cleanup(1)?, ["third"]);              // the last handle to file object 1 went
 /// # drop((caller, worker));
 /// # assert!(reads.close()?.is_empty());
 /// # Ok(())
 /// # }
 /// ```
 ///
-/// At most [`Size::irps`] requests are under way at a time, submitted and not completed, and [`Size::limit`] of them
-/// listed. In its whole life a queue has 2^30 requests for each IRP ([`SubmitError::LivesSpent`]).
+/// At most [`Size::irps`] requests are under way at a time, submitted and not completed, and
+/// [`Size::limit`] of them listed. In its whole life a queue has 2^30 requests for each IRP
+/// ([`SubmitError::LivesSpent`]).
 ///
-/// No value comes out twice, and none is dropped twice, whatever is dropped, forgotten ([`std::mem::forget`]) or let go
-/// in a panic. What is still listed where queue and passes are dropped is dropped with the last of them. A [`Request`]
-/// that is forgotten keeps its value and its number for ever; its IRP is completed when its pass is dropped. (A forgotten
+/// No value comes out twice, and none is dropped twice, whatever is dropped, forgotten
+/// ([`std::mem::forget`]) or let go in a panic. What is still listed where queue and passes are
+/// dropped is dropped with the last of them. A [`Request`] that is forgotten keeps its value and
+/// its number for ever; its IRP is completed when its pass is dropped. (A forgotten
 /// [`OwnedRequest`] keeps its pass too.)
 ///
-/// A worker waits for the next request ([`RequestPass::recv`], [`RequestPass::recv_timeout`], [`RequestPass::iter`]), and
-/// a submit or a put-back wakes one who waits for it, until the queue is shut down ([`Requests::shutdown`]) or dropped.
+/// A worker waits for the next request ([`RequestPass::recv`], [`RequestPass::recv_timeout`],
+/// [`RequestPass::iter`]), and a submit or a put-back wakes one who waits for it, until the queue
+/// is shut down ([`Requests::shutdown`]) or dropped.
 ///
-/// Passes borrow nothing, so a queue may be dropped while threads wait through them. Then all are woken, and from then on
-/// nobody waits: what is listed is still taken, and where nothing is, a worker learns what it learns after a shutdown.
-/// Passes do the rest as before; only a shutdown refuses submits. So keep the queue for as long as workers are to wait.
+/// Passes borrow nothing, so a queue may be dropped while threads wait through them. Then all are
+/// woken, and from then on nobody waits: what is listed is still taken, and where nothing is, a
+/// worker learns what it learns after a shutdown. Passes do the rest as before; only a shutdown
+/// refuses submits. So keep the queue for as long as workers are to wait.
 ///
 /// ```
 /// # use csq::*;
@@ -87,8 +92,8 @@ use std::task::Waker;
 /// # Ok::<(), Box<dyn std::error::Error>>(())
 /// ```
 ///
-/// What crosses threads, where its values may (`T: Send`): the queue and an [`OwnedPass`] are shared by threads; these
-/// two, a [`RequestPass`] and an [`OwnedRequest`] go to others.
+/// What crosses threads, where its values may (`T: Send`): the queue and an [`OwnedPass`] are
+/// shared by threads; these two, a [`RequestPass`] and an [`OwnedRequest`] go to others.
 ///
 /// ```
 /// # use csq::{OwnedPass, OwnedRequest, RequestPass, Requests};
@@ -145,7 +150,8 @@ pub struct Requests<T> {
     shared: Arc<Shared<T>>,
 }
 
-/// The queue of a queue of requests, which ends all waits where it is dropped. None once it was closed.
+/// The queue of a queue of requests, which ends all waits where it is dropped. None once it was
+/// closed.
 struct Kept(Option<Queue>);
 
 impl Deref for Kept {
@@ -207,8 +213,8 @@ impl<T> Requests<T> {
         Ok(Requests::over(Queue::new(size)?, size))
     }
 
-    /// A queue of this size, each file object with a limit of its own: how many requests may be listed for it at a time,
-    /// 1 to `irps`.
+    /// A queue of this size, each file object with a limit of its own: how many requests may be
+    /// listed for it at a time, 1 to `irps`.
     ///
     /// # Errors
     ///
@@ -242,7 +248,7 @@ impl<T> Requests<T> {
         }
     }
 
-    /// A pass: one that was given back, if there is one, else a new one. Takes the lock.
+    /// A pass: one that was given back, if there is one, otherwise a new one. Takes the lock.
     ///
     /// # Errors
     ///
@@ -261,7 +267,8 @@ impl<T> Requests<T> {
         Ok(RequestPass::new(Arc::clone(&self.shared), pass))
     }
 
-    /// A pass for several threads: one that was given back, if there is one, else a new one. Takes the lock.
+    /// A pass for several threads: one that was given back, if there is one, otherwise a new one.
+    /// Takes the lock.
     ///
     /// # Errors
     ///
@@ -344,9 +351,9 @@ impl<T> Requests<T> {
         self.queue.file_len(file)
     }
 
-    /// Shuts the queue down for good: each further submit is refused ([`SubmitError::ShutDown`]), and those who wait are
-    /// woken. They get what is listed still, and then learn of the shutdown. What is taken may still be completed, put
-    /// back and cancelled.
+    /// Shuts the queue down for good: each further submit is refused ([`SubmitError::ShutDown`]),
+    /// and those who wait are woken. They get what is listed still, and then learn of the shutdown.
+    /// What is taken may still be completed, put back and cancelled.
     ///
     /// [`SubmitError::ShutDown`]: crate::SubmitError::ShutDown
     ///
@@ -365,8 +372,9 @@ impl<T> Requests<T> {
         wake_those(self.queue.lock(), Waiting::shut_down);
     }
 
-    /// Closes the queue, once no pass is out, and hands over the values that are still listed, in the list's order. Those
-    /// who wait have passes, so a queue with workers is shut down first ([`Requests::shutdown`]).
+    /// Closes the queue, once no pass is out, and hands over the values that are still listed, in
+    /// the list's order. Those who wait have passes, so a queue with workers is shut down first
+    /// ([`Requests::shutdown`]).
     ///
     /// # Errors
     ///

@@ -1,8 +1,8 @@
 //! What a pass has to complete.
 //!
-//! A token borrows its pass, so it is spent through that pass, before the pass is given back, and by its thread. Rust
-//! has no values that must be spent; so a token that is let go, at a `?` or in a panic, completes its IRP with
-//! `STATUS_CANCELLED`, which fits however the pass got it.
+//! A token borrows its pass, so it is spent through that pass, before the pass is given back, and
+//! by its thread. Rust has no values that must be spent; so a token that is let go, at a `?` or in
+//! a panic, completes its IRP with `STATUS_CANCELLED`, which fits however the pass got it.
 
 use crate::errors::NotPutBack;
 use crate::pass::Pass;
@@ -64,10 +64,11 @@ impl<'pass> Removed<'pass> {
         mem::forget(self);
     }
 
-    /// Puts the IRP back into the list, for the file object that it was inserted for (`IoCsqInsertIrpEx` of an IRP that
-    /// was removed): for a worker that can't serve it now. Its life goes on, so the context of its insert still names it.
-    /// One that was cancelled while a pass held it isn't listed, but has to be completed ([`Inserted::Cancelled`]). A
-    /// refusal hands the token back. Takes the lock.
+    /// Puts the IRP back into the list, for the file object that it was inserted for
+    /// (`IoCsqInsertIrpEx` of an IRP that was removed): for a worker that can't serve it now. Its
+    /// life goes on, so the context of its insert still names it. One that was cancelled while a
+    /// pass held it isn't listed, but has to be completed ([`Inserted::Cancelled`]). A refusal
+    /// hands the token back. Takes the lock.
     ///
     /// # Errors
     ///
@@ -105,8 +106,8 @@ impl Drop for Removed<'_> {
     }
 }
 
-/// An IRP that the pass got cancelled: an insert or a put-back found it cancelled, or the cancel routine took it out.
-/// Dropped, it is completed.
+/// An IRP that the pass got cancelled: an insert or a put-back found it cancelled, or the cancel
+/// routine took it out. Dropped, it is completed.
 #[must_use = "a cancelled IRP has to be completed, and is if it is dropped"]
 pub struct Cancelled<'pass> {
     pub(crate) pass: &'pass Pass,
@@ -141,8 +142,8 @@ impl Drop for Cancelled<'_> {
     }
 }
 
-/// An IRP whose cancel routine this pass has taken, and which is still listed. Dropped, the cancel routine runs, and
-/// the IRP is completed with `STATUS_CANCELLED`.
+/// An IRP whose cancel routine this pass has taken, and which is still listed. Dropped, the cancel
+/// routine runs, and the IRP is completed with `STATUS_CANCELLED`.
 #[must_use = "the cancel routine of a claimed IRP has to run, and does if it is dropped"]
 pub struct Claim<'pass> {
     pub(crate) pass: &'pass Pass,
@@ -183,7 +184,8 @@ impl Drop for Claim<'_> {
 #[must_use = "the IRP may have been cancelled before, and is completed then if this is dropped"]
 #[derive(Debug)]
 pub enum Inserted<'pass> {
-    /// The IRP is listed. The context can remove just it ([`Pass::remove`]), and names it to a cancel.
+    /// The IRP is listed. The context can remove just it ([`Pass::remove`]), and names it to a
+    /// cancel.
     Pending(Irp),
     /// The IRP had been cancelled before, and isn't listed: it has to be completed.
     Cancelled(Cancelled<'pass>),

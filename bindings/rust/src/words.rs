@@ -64,10 +64,11 @@ pub enum Peek {
 /// How a queue keeps its list.
 #[derive(Clone, Copy, Debug, Default, PartialEq, Eq, Hash)]
 pub enum List {
-    /// In one vector, used as a ring: the faster one if the next IRP is removed whatever its file object. A removal from
-    /// its middle moves the IRPs on the shorter side.
+    /// In one vector, used as a ring: the faster one if the next IRP is removed whatever its file
+    /// object. A removal from its middle moves the IRPs on the shorter side.
     Vector,
-    /// In chains, one over all listed IRPs and one for each file object: as many steps however many are listed.
+    /// In chains, one over all listed IRPs and one for each file object: as many steps however many
+    /// are listed.
     Chains,
     /// In the vector if the queue has at most [`Size::AUTO_VECTOR_IRPS`] IRPs, else in the chains.
     #[default]
@@ -104,7 +105,8 @@ impl Size {
     /// The most IRPs of a queue that [`List::Auto`] keeps in a vector.
     pub const AUTO_VECTOR_IRPS: u32 = 64;
 
-    /// A queue in which all IRPs may be listed and begin in life 0, with its list as [`List::Auto`] has it.
+    /// A queue in which all IRPs may be listed and begin in life 0, with its list as [`List::Auto`]
+    /// has it.
     ///
     /// ```
     /// # use csq::*;

@@ -1,5 +1,6 @@
-//! The documents' example of a queue of requests is the one that is run, in the comment of `Requests`; and the C header,
-//! with which the crate's declarations are compared, stands where they look for it.
+//! The documents' example of a queue of requests is the one that is run, in the comment of
+//! `Requests`; and the C header, with which the crate's declarations are compared, stands where
+//! they look for it.
 
 /// The lines of the first block of code that has this text, as a reader sees them.
 fn example<'a>(lines: impl Iterator<Item = &'a str>, text: &str) -> Vec<&'a str> {

@@ -11,7 +11,8 @@ fn largest(list: List) -> Size {
     }
 }
 
-/// Of the vector, whose removals by file object take the longer the more are listed, a few file objects alone.
+/// Of the vector, whose removals by file object take the longer the more are listed, a few file
+/// objects alone.
 fn files(list: List) -> impl Iterator<Item = u32> {
     let step = if list == List::Vector { 1024 } else { 1 };
     (0..FILES).rev().step_by(step)

@@ -182,8 +182,8 @@ fn threads_wait_through_one_pass() {
     });
 }
 
-/// More threads than a queue has passes, which share one; requests are completed by whatever thread gets them, and
-/// cancelled by all.
+/// More threads than a queue has passes, which share one; requests are completed by whatever thread
+/// gets them, and cancelled by all.
 #[test]
 fn threads_share_one_pass() {
     const THREADS: u32 = 8;

@@ -1,4 +1,5 @@
-//! What was removed and is put back, over both lists: with a cancel before, in between and after, and refused.
+//! What was removed and is put back, over both lists: with a cancel before, in between and after,
+//! and refused.
 use csq::*;
 use std::cell::Cell;
 
@@ -15,7 +16,8 @@ fn pending(answer: Inserted<'_>) -> Irp {
     }
 }
 
-/// When a cancel comes: never; before the worker takes the IRP; while it has it; after it has put it back.
+/// When a cancel comes: never; before the worker takes the IRP; while it has it; after it has put
+/// it back.
 #[derive(Clone, Copy, Debug, PartialEq)]
 enum Comes {
     Never,
@@ -105,7 +107,8 @@ fn a_refusal_hands_the_token_back() {
         assert_eq!(held.cause, PutBackError::Full);
         let text = "the queue has as many IRPs listed as it may";
         assert_eq!(held.to_string(), text);
-        // The pass holds both as before. What is dropped is completed, and what has a place is put back.
+        // The pass holds both as before. What is dropped is completed, and what has a place is put
+        // back.
         assert_eq!((pass.holding(), queue.len()), ((2, 0), 2));
         drop(refused);
         assert_eq!(pass.status(0), Ok((0, Some(FinalStatus::CANCELLED))));

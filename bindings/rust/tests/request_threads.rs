@@ -1,4 +1,5 @@
-//! Six threads over one queue of requests: each value comes out once, whoever gets it, and is dropped once.
+//! Six threads over one queue of requests: each value comes out once, whichever thread gets it, and
+//! is dropped once.
 use csq::*;
 use std::panic::{catch_unwind, resume_unwind, AssertUnwindSafe};
 use std::sync::atomic::{AtomicU8, Ordering::SeqCst};

@@ -124,7 +124,8 @@ fn lives_end() {
     }
 }
 
-/// The number that has been free longest is used next, so that the queue keeps its size until its last life.
+/// The number that has been free longest is used next, so that the queue keeps its size until its
+/// last life.
 #[test]
 fn numbers_wear_evenly() {
     for size in sizes(3, 1) {

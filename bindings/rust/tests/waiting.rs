@@ -133,7 +133,8 @@ fn a_shutdown_wakes_all_once_nothing_is_listed() {
     );
 }
 
-/// Passes outlive their queue, so a thread may wait while it is dropped. It is woken, and passes go on but for waiting.
+/// Passes outlive their queue, so a thread may wait while it is dropped. It is woken, and passes go
+/// on but for waiting.
 #[test]
 fn a_drop_of_the_queue_wakes_all_once_nothing_is_listed() {
     let queue = queue_of(4, 2, 4);
@@ -200,8 +201,8 @@ fn what_is_under_way_at_a_shutdown_is_ended_as_ever() {
     assert!(queue.close().unwrap().is_empty());
 }
 
-/// Workers that wait for all kinds of requests, some of which they put back: each value comes out once, and nobody waits
-/// for what is listed.
+/// Workers that wait for all kinds of requests, some of which they put back: each value comes out
+/// once, and nobody waits for what is listed.
 #[test]
 fn nobody_sleeps_while_a_request_for_it_is_listed() {
     const FILES: u32 = 2;

@@ -12,7 +12,8 @@ pub struct Load {
     connections: u32,
     jobs: u32,
     rounds: u32,
-    /// All clients and the server meet here twice, once all connections of the first round are open.
+    /// All clients and the server meet here twice, once all connections of the first round are
+    /// open.
     pub meet: Barrier,
 }
 
@@ -51,7 +52,8 @@ impl Sum for Asked {
     }
 }
 
-/// A client: in each round it opens its connections, asks through all of them, and then reads the answers.
+/// A client: in each round it opens its connections, asks through all of them, and then reads the
+/// answers.
 pub fn ask(load: &Load, client: usize, numbers: &Arc<Numbers>, network: &Sender<Event>) -> Asked {
     let mut asked = Asked::default();
     let send = |event| network.send(event).expect("a server");

@@ -1,10 +1,11 @@
-//! A server of many connections, which come and go: one thread reads what they send, workers serve their requests, and a
-//! timer cancels those that wait too long. A request that finds its device busy is put back. Once a connection has gone
-//! its requests are drained, and the next one has its number. Channels stand for the network; clients in the same program
-//! (`clients.rs`) keep the server busy, and hang up early now and then. In the end every request is accounted for.
+//! A server of many connections, which come and go: one thread reads what they send, workers serve
+//! their requests, and a timer cancels those that wait too long. A request that finds its device
+//! busy is put back. Once a connection has gone its requests are drained, and the next one has its
+//! number. Channels stand for the network; clients in the same program (`clients.rs`) keep the
+//! server busy, and hang up early now and then. In the end every request is accounted for.
 //!
-//! `cargo run --example server -- 4000 16 2 4 100`: so many connections at once, requests of each, rounds, workers, and
-//! milliseconds until a request is due.
+//! `cargo run --example server -- 4000 16 2 4 100`: the numbers are of connections at once,
+//! requests of each, rounds, workers, and milliseconds until a request is due.
 mod clients;
 
 use clients::{ask, Asked, Load};
@@ -41,7 +42,8 @@ impl Numbers {
     }
 }
 
-/// A connection. Each of its requests has a share of it, so its number is free once none is listed or taken.
+/// A connection. Each of its requests has a share of it, so its number is free once none is listed
+/// or taken.
 pub struct Connection {
     file: u32,
     answers: Sender<Answer>,
@@ -170,7 +172,8 @@ impl Server {
         }
     }
 
-    /// Cancels each request that waits too long. All have the same time, so the first to come is due first.
+    /// Cancels each request that waits too long. All have the same time, so the first to come is
+    /// due first.
     fn cancel_what_is_due(
         &self,
         pass: &OwnedPass<Job>,

@@ -1,6 +1,6 @@
-//! The calls of a pass that tokens and queues of requests are made of. What a token or a request names its pass holds or
-//! owes, so none of these is refused but for what the list says. Those whose names end with `_locked` are made with what
-//! the queue's lock guards.
+//! The calls of a pass that tokens and queues of requests are made of. What a token or a request
+//! names its pass holds or owes, so none of these is refused but for what the list says. Those
+//! whose names end with `_locked` are made with what the queue's lock guards.
 
 use super::Pass;
 use crate::errors::{CancelError, InsertError, PutBackError, ReuseError};

@@ -1,4 +1,5 @@
-//! Futures of requests, for any executor: each keeps the waker that its task was last polled with in the queue's list.
+//! Futures of requests, for any executor: each keeps the waker that its task was last polled with
+//! in the queue's list.
 
 use super::owned::{OwnedPass, OwnedRequest};
 use super::request::RequestId;
@@ -11,8 +12,8 @@ use std::future::Future;
 use std::pin::Pin;
 use std::task::{Context, Poll};
 
-/// The next request, once there is one ([`OwnedPass::recv_async`]). Dropped before, it takes none: one that came for it
-/// wakes the next who waits for the same.
+/// The next request, once there is one ([`OwnedPass::recv_async`]). Dropped before, it takes none:
+/// one that came for it wakes the next who waits for the same.
 #[must_use = "a future does nothing unless it is awaited"]
 pub struct RecvFuture<T> {
     pass: OwnedPass<T>,

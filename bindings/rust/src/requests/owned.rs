@@ -17,15 +17,17 @@ use std::time::Duration;
 /// A seat that threads share.
 struct SharedSeat<T>(Seat<T>);
 
-// SAFETY: each call by the seat's pass is made with the queue's lock, but for those of its drop, when nobody else has it:
-// so the pass is used by one thread at a time, and goes from one to another by that lock. The values are in slots, which
-// go from thread to thread if `T` does.
+// SAFETY: each call by the seat's pass is made with the queue's lock, but for those of its drop,
+// when nobody else has it: so the pass is used by one thread at a time, and goes from one to
+// another by that lock. The values are in slots, which go from thread to thread if `T` does.
 unsafe impl<T: Send> Sync for SharedSeat<T> {}
 
-/// A pass of a queue of requests that threads share: a clone of it is the same pass. Each call through it takes the lock.
+/// A pass of a queue of requests that threads share: a clone of it is the same pass. Each call
+/// through it takes the lock.
 ///
-/// What it takes is an [`OwnedRequest`], which borrows nothing. A pool of threads needs one such pass, where a
-/// [`RequestPass`](crate::RequestPass) is for one thread. Dropped with its last clone and request, it is given back.
+/// What it takes is an [`OwnedRequest`], which borrows nothing. A pool of threads needs one such
+/// pass, where a [`RequestPass`](crate::RequestPass) is for one thread. Dropped with its last clone
+/// and request, it is given back.
 pub struct OwnedPass<T> {
     seat: Arc<SharedSeat<T>>,
 }
@@ -101,7 +103,8 @@ impl<T> OwnedPass<T> {
         Ok(self.request(self.seat().try_take(peek)?))
     }
 
-    /// [`OwnedPass::try_recv`], and waits until there is one, as [`RequestPass::recv`](crate::RequestPass::recv) does.
+    /// [`OwnedPass::try_recv`], and waits until there is one, as
+    /// [`RequestPass::recv`](crate::RequestPass::recv) does.
     ///
     /// # Errors
     ///
@@ -128,7 +131,8 @@ impl<T> OwnedPass<T> {
     ///
     /// # Errors
     ///
-    /// [`RecvTimeoutError`]: none came in time; or the queue was shut down or dropped, and none is listed.
+    /// [`RecvTimeoutError`]: none came in time; or the queue was shut down or dropped,
+    /// and none is listed.
     ///
     /// # Panics
     ///
@@ -173,7 +177,8 @@ impl<T> OwnedPass<T> {
         std::iter::from_fn(move || self.recv(peek).ok())
     }
 
-    /// The next request, once there is one: [`OwnedPass::recv`] for a task, which waits by its waker.
+    /// The next request, once there is one: [`OwnedPass::recv`] for a task, which waits by its
+    /// waker.
     ///
     /// # Panics
     ///
@@ -219,8 +224,8 @@ impl<T> OwnedPass<T> {
         seat.cancel(request, marked, || locked)
     }
 
-    /// Closes a file object and cancels what is listed for it, as [`RequestPass::cleanup`](crate::RequestPass::cleanup)
-    /// does.
+    /// Closes a file object and cancels what is listed for it, as
+    /// [`RequestPass::cleanup`](crate::RequestPass::cleanup) does.
     ///
     /// # Errors
     ///
@@ -277,10 +282,11 @@ impl<T> OwnedPass<T> {
     }
 }
 
-/// A request that an [`OwnedPass`] took, with its value and a share of that pass. Dropped, it is completed with
-/// `STATUS_CANCELLED`, and its value dropped.
+/// A request that an [`OwnedPass`] took, with its value and a share of that pass. Dropped, it is
+/// completed with `STATUS_CANCELLED`, and its value dropped.
 ///
-/// It borrows nothing: it may be kept in a struct, sent to another thread if its value may, and completed there.
+/// It borrows nothing: it may be kept in a struct, sent to another thread if its value may, and
+/// completed there.
 #[must_use = "a request that was taken has to be completed, and is where it is dropped"]
 pub struct OwnedRequest<T> {
     taken: Taken<OwnedPass<T>>,
@@ -339,8 +345,8 @@ impl<T> OwnedRequest<T> {
         &mut self.taken.value
     }
 
-    /// Whether a cancel named it and came too late, as [`Request::is_cancelled`](crate::Request::is_cancelled) has it.
-    /// Takes the lock.
+    /// Whether a cancel named it and came too late, as
+    /// [`Request::is_cancelled`](crate::Request::is_cancelled) has it. Takes the lock.
     ///
     /// ```
     /// # use csq::*;
@@ -357,8 +363,8 @@ impl<T> OwnedRequest<T> {
         self.taken.is_cancelled()
     }
 
-    /// Ends once a cancel has named the request ([`OwnedRequest::is_cancelled`]). Of one that is completed
-    /// before, it never ends.
+    /// Ends once a cancel has named the request ([`OwnedRequest::is_cancelled`]). Of one that is
+    /// completed before, it never ends.
     ///
     /// ```
     /// # use csq::*;
@@ -378,7 +384,8 @@ impl<T> OwnedRequest<T> {
         CancelledFuture::new(self.taken.pass().clone(), self.taken.id)
     }
 
-    /// Completes the request with `STATUS_SUCCESS`, and hands its value over. Its IRP is free then. Takes the lock.
+    /// Completes the request with `STATUS_SUCCESS`, and hands its value over. Its IRP is free then.
+    /// Takes the lock.
     ///
     /// ```
     /// # use csq::*;
@@ -393,7 +400,8 @@ impl<T> OwnedRequest<T> {
         self.taken.complete()
     }
 
-    /// Puts the request back with its value, as [`Request::put_back`](crate::Request::put_back) does.
+    /// Puts the request back with its value, as [`Request::put_back`](crate::Request::put_back)
+    /// does.
     ///
     /// # Errors
     ///

@@ -10,10 +10,11 @@ use std::fmt;
 use std::sync::Arc;
 use std::time::Duration;
 
-/// A pass of a queue of requests, through which one thread at a time makes its calls. It has a share of its queue.
+/// A pass of a queue of requests, through which one thread at a time makes its calls. It has a
+/// share of its queue.
 ///
-/// It may be moved to another thread, but not be shared by two ([`OwnedPass`](crate::OwnedPass) is). Dropped, it is given
-/// back.
+/// It may be moved to another thread, but not be shared by two ([`OwnedPass`](crate::OwnedPass)
+/// is). Dropped, it is given back.
 pub struct RequestPass<T> {
     seat: Seat<T>,
 }
@@ -39,8 +40,8 @@ impl<T> RequestPass<T> {
         RequestPass { seat }
     }
 
-    /// Submits a value for a file object. The result names the request to a cancel. One that waits for it is woken. A
-    /// refusal hands the value back. Takes the lock.
+    /// Submits a value for a file object. The result names the request to a cancel. One that waits
+    /// for it is woken. A refusal hands the value back. Takes the lock.
     ///
     /// # Errors
     ///
@@ -59,7 +60,8 @@ impl<T> RequestPass<T> {
         self.seat.submit(value, file, place)
     }
 
-    /// Takes the first listed request of a file object, or of any, that no canceller has. Takes the lock.
+    /// Takes the first listed request of a file object, or of any, that no canceller has. Takes the
+    /// lock.
     ///
     /// ```
     /// # use csq::*;
@@ -95,8 +97,8 @@ impl<T> RequestPass<T> {
         Ok(Request::of(self, taken))
     }
 
-    /// [`RequestPass::next`], and waits until there is one. Of a file object that was closed none comes: it waits for
-    /// the shutdown or the drop.
+    /// [`RequestPass::next`], and waits until there is one. Of a file object that was closed none
+    /// comes: it waits for the shutdown or the drop.
     ///
     /// # Errors
     ///
@@ -123,7 +125,8 @@ impl<T> RequestPass<T> {
     ///
     /// # Errors
     ///
-    /// [`RecvTimeoutError`]: none came in time; or the queue was shut down or dropped, and none is listed.
+    /// [`RecvTimeoutError`]: none came in time; or the queue was shut down or dropped,
+    /// and none is listed.
     ///
     /// # Panics
     ///
@@ -169,8 +172,9 @@ impl<T> RequestPass<T> {
         std::iter::from_fn(move || self.recv(peek).ok())
     }
 
-    /// Cancels a request, and hands its value over. Else somebody else has the value, or had it. Takes the lock only
-    /// where the value is handed over; with the feature `async` also where it is taken, to wake who waits for the cancel.
+    /// Cancels a request, and hands its value over. Otherwise somebody else has the value, or had
+    /// it. Takes the lock only where the value is handed over; with the feature `async` also where
+    /// it is taken, to wake who waits for the cancel.
     ///
     /// # Errors
     ///
@@ -190,8 +194,9 @@ impl<T> RequestPass<T> {
         seat.cancel(request, marked, || seat.lock())
     }
 
-    /// Closes a file object for good, then cancels each request that is listed for it, and hands their values over, in
-    /// the list's order. What a canceller has is left to that canceller. The lock is free between two of them.
+    /// Closes a file object for good, then cancels each request that is listed for it, and hands
+    /// their values over, in the list's order. What a canceller has is left to that canceller. The
+    /// lock is free between two of them.
     ///
     /// # Errors
     ///
@@ -211,10 +216,11 @@ impl<T> RequestPass<T> {
         Ok(self.seat.cancel_listed(Peek::File(file)))
     }
 
-    /// Cancels each request that is listed for a file object, or for any, and hands their values over, in the list's
-    /// order. The file object stays open, so this may go on for as long as others submit or put back. What a canceller has
-    /// is left to that canceller. What was taken before isn't waited for, and is for the file object again if it is put
-    /// back. The lock is free between two of them.
+    /// Cancels each request that is listed for a file object, or for any, and hands their values
+    /// over, in the list's order. The file object stays open, so this may go on for as long as
+    /// others submit or put back. What a canceller has is left to that canceller. What was taken
+    /// before isn't waited for, and is for the file object again if it is put back. The lock is
+    /// free between two of them.
     ///
     /// # Errors
     ///

@@ -6,15 +6,16 @@ use crate::errors::NotPutBack;
 use crate::words::{FinalStatus, Irp, Place};
 use std::fmt;
 
-/// Names a request that was submitted to a cancel: this one, in its own queue, and none that comes after it.
+/// Names a request that was submitted to a cancel: this one, in its own queue, and none that comes
+/// after it.
 #[derive(Clone, Copy, Debug, PartialEq, Eq, Hash)]
 pub struct RequestId {
     pub(super) queue: u64,
     pub(super) irp: Irp,
 }
 
-/// A request that a pass took, with its value. Dropped, it is completed with `STATUS_CANCELLED`, and its value dropped. It
-/// stays in its thread: the requests of an `OwnedPass` can go to others.
+/// A request that a pass took, with its value. Dropped, it is completed with `STATUS_CANCELLED`,
+/// and its value dropped. It stays in its thread: the requests of an `OwnedPass` can go to others.
 #[must_use = "a request that was taken has to be completed, and is where it is dropped"]
 pub struct Request<'pass, T> {
     taken: Taken<&'pass RequestPass<T>>,
@@ -77,8 +78,9 @@ impl<'pass, T> Request<'pass, T> {
         &mut self.taken.value
     }
 
-    /// Whether a cancel named it and came too late ([`Missed::Taken`](crate::Missed::Taken)): nobody waits for it, so it
-    /// may be given up, and a put-back doesn't leave it to another worker. Takes no lock.
+    /// Whether a cancel named it and came too late ([`Missed::Taken`](crate::Missed::Taken)):
+    /// nobody waits for it, so it may be given up, and a put-back doesn't leave it to another
+    /// worker. Takes no lock.
     ///
     /// ```
     /// # use csq::*;
@@ -94,7 +96,8 @@ impl<'pass, T> Request<'pass, T> {
         self.taken.is_cancelled()
     }
 
-    /// Completes the request with `STATUS_SUCCESS`, and hands its value over. Its IRP is free then. Takes the lock.
+    /// Completes the request with `STATUS_SUCCESS`, and hands its value over. Its IRP is free then.
+    /// Takes the lock.
     ///
     /// ```
     /// # use csq::*;
@@ -109,9 +112,10 @@ impl<'pass, T> Request<'pass, T> {
         self.taken.complete()
     }
 
-    /// Puts the request back into the list with its value, for the file object that it was submitted for: for a worker
-    /// that can't serve it now. It keeps its name. One that a cancel named in the meantime is completed with
-    /// `STATUS_CANCELLED`, and its value handed over. A refusal hands the request back. Takes the lock.
+    /// Puts the request back into the list with its value, for the file object that it was
+    /// submitted for: for a worker that can't serve it now. It keeps its name. One that a cancel
+    /// named in the meantime is completed with `STATUS_CANCELLED`, and its value handed over. A
+    /// refusal hands the request back. Takes the lock.
     ///
     /// # Errors
     ///
@@ -126,7 +130,8 @@ impl<'pass, T> Request<'pass, T> {
     /// match pass.next(Peek::Any).expect("the request").put_back(Place::Front) {
     ///     Ok(PutBack::Pending) => assert_eq!(reads.len(), 1),
     ///     Ok(PutBack::Cancelled(value)) => println!("{value}: nobody waits for it"),
-    ///     Err(refused) => drop(refused.held), // its file object was closed: completed as cancelled
+    ///     // Its file object was closed: completed as cancelled.
+    ///     Err(refused) => drop(refused.held),
     /// }
     /// # Ok(())
     /// # }
@@ -142,14 +147,15 @@ impl<'pass, T> Request<'pass, T> {
 pub enum PutBack<T> {
     /// It is listed again, with its value; or a cancel, perhaps a second one, has it already.
     Pending,
-    /// A cancel had named it in the meantime ([`Missed::Taken`](crate::Missed::Taken)): it is completed with
-    /// `STATUS_CANCELLED`, and this is its value.
+    /// A cancel had named it in the meantime ([`Missed::Taken`](crate::Missed::Taken)): it is
+    /// completed with `STATUS_CANCELLED`, and this is its value.
     Cancelled(T),
 }
 
 /// A request that was taken through a pass, and isn't completed or put back.
 pub(super) struct Taken<P: Through> {
-    // Dropped before the value, so that the IRP is completed by then, whatever the drop of the value does.
+    // Dropped before the value, so that the IRP is completed by then, whatever the drop of the
+    // value does.
     hold: Hold<P>,
     pub(super) id: RequestId,
     pub(super) value: P::Value,

@@ -16,8 +16,8 @@ use std::task::{Poll, Waker};
 use std::thread;
 use std::time::{Duration, Instant};
 
-/// How often a thread that finds no request lets others run before it sleeps: a sleep and a wake take far longer than a
-/// job of a busy queue.
+/// How often a thread that finds no request lets others run before it sleeps: a sleep and a wake
+/// take far longer than a job of a busy queue.
 const YIELDS: u32 = 4;
 
 /// A pass of a queue of requests. Whoever shares it makes each call of it with the queue's lock.
@@ -129,7 +129,8 @@ impl<T> Seat<T> {
         })
     }
 
-    /// Takes a match, or waits in the list with this waker, and the ticket names it there. None once the queue is shut down or dropped.
+    /// Takes a match, or waits in the list with this waker, and the ticket names it there. None
+    /// once the queue is shut down or dropped.
     pub(super) fn poll_take(
         &self,
         peek: Peek,
@@ -176,7 +177,8 @@ impl<T> Seat<T> {
         drop(waker);
     }
 
-    /// Waits no longer. If it was woken and takes nothing, the next one that waits for the same is woken.
+    /// Waits no longer. If it was woken and takes nothing, the next one that waits for the same is
+    /// woken.
     #[cfg(feature = "async")]
     pub(super) fn give_up(&self, peek: Peek, ticket: Ticket) {
         let mut locked = self.lock();
@@ -302,7 +304,8 @@ impl<T> Seat<T> {
         }
     }
 
-    /// Names the request as cancelled to whoever has it. Whether its value is this pass's to take (`cancel`). Takes no lock.
+    /// Names the request as cancelled to the one that has it. Whether its value is this pass's to
+    /// take (`cancel`). Takes no lock.
     pub(super) fn mark(&self, request: RequestId) -> Result<(), Missed> {
         if request.queue != self.shared.name {
             return Err(Missed::OtherQueue);
@@ -315,8 +318,8 @@ impl<T> Seat<T> {
         }
     }
 
-    /// Cancels a request that this pass has tried to mark: hands its value over, or says why not. The lock is taken only
-    /// if it is needed, by this function.
+    /// Cancels a request that this pass has tried to mark: hands its value over, or says why not.
+    /// The lock is taken only if it is needed, by this function.
     pub(super) fn cancel<'a>(
         &'a self,
         request: RequestId,
@@ -339,7 +342,8 @@ impl<T> Seat<T> {
     fn take_owed(&self, locked: &mut Locked, request: RequestId) -> T {
         let irp = request.irp;
         self.pass.cancel_owed_locked(locked, irp);
-        // SAFETY: this cancel routine gave the IRP to the pass, and nobody else has it before its next life.
+        // SAFETY: this cancel routine gave the IRP to the pass, and nobody else has it before its
+        // next life.
         let mut number = unsafe { Number::given_out(irp) };
         let Entry { value, .. } = self.take_entry(&mut number);
         self.release(locked, irp, number);
@@ -359,12 +363,14 @@ impl<T> Seat<T> {
         }
     }
 
-    /// Panics unless there is this file object: whoever waits for another one would wait for the shutdown.
+    /// Panics unless there is this file object: a thread that waits for another one would wait for
+    /// the shutdown.
     pub(super) fn expect_known(&self, peek: Peek) {
         assert!(self.knows(peek).is_ok(), "there is no such file object");
     }
 
-    /// Cancels each request that is listed, and takes their values. The lock is free between two of them.
+    /// Cancels each request that is listed, and takes their values. The lock is free between two of
+    /// them.
     pub(super) fn cancel_listed(&self, peek: Peek) -> Vec<T> {
         std::iter::from_fn(|| self.cancel_next(peek)).collect()
     }

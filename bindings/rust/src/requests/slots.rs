@@ -5,9 +5,10 @@ use crate::words::Irp;
 use std::cell::UnsafeCell;
 use std::collections::VecDeque;
 
-/// An IRP's number, which is with whoever has the IRP, and so the IRP's slot. There is at most one of each: it is free;
-/// or a submit has it, until its insert is accepted; or the queue has the IRP, and there is none; or a pass has it that
-/// the queue gave the IRP, until the IRP is put back, or is completed and has begun its next life.
+/// An IRP's number, which is with the one that has the IRP, and so the IRP's slot. There is at most
+/// one of each: it is free; or a submit has it, until its insert is accepted; or the queue has the
+/// IRP, and there is none; or a pass has it that the queue gave the IRP, until the IRP is put back,
+/// or is completed and has begun its next life.
 pub(crate) struct Number(u32);
 
 impl Number {
@@ -15,10 +16,10 @@ impl Number {
     ///
     /// # Safety
     ///
-    /// The queue gave the IRP to the caller by a removal or a cancel routine. The caller still holds it, and makes this
-    /// once for it. Then it is the only one, by what is proved of the queue: "in every execution, in each life of a
-    /// request, at most one exchange claims it since it was last put back, at most one pass owes or holds it"
-    /// (`docs/PROOFS.md`, "One owner").
+    /// The queue gave the IRP to the caller by a removal or a cancel routine. The caller still
+    /// holds it, and makes this once for it. Then it is the only one, by what is proved of the
+    /// queue: "in every execution, in each life of a request, at most one exchange claims it since
+    /// it was last put back, at most one pass owes or holds it" (`docs/PROOFS.md`, "One owner").
     #[inline]
     pub(crate) unsafe fn given_out(irp: Irp) -> Number {
         Number(irp.irp)
@@ -31,7 +32,8 @@ impl Number {
     }
 }
 
-/// The numbers that wait for a submit, and how many are in use or were in their last life. The queue's lock guards them.
+/// The numbers that wait for a submit, and how many are in use or were in their last life. The
+/// queue's lock guards them.
 ///
 /// The one that has been free longest is taken, so that all spend their lives evenly.
 #[derive(Default)]
@@ -84,9 +86,10 @@ pub(crate) struct Slots<T> {
     cells: Box<[UnsafeCell<Option<T>>]>,
 }
 
-// SAFETY: a slot is reached by whoever has its number alone, and the number goes from one thread to the next by the
-// queue's lock: under it a submit takes a free one, an insert or a put-back gives it up, a removal or a cancel routine
-// gets it, and it becomes free. So a slot sends a value from thread to thread, and never shares one.
+// SAFETY: a slot is reached by the one that has its number alone, and the number goes from one
+// thread to the next by the queue's lock: under it a submit takes a free one, an insert or a
+// put-back gives it up, a removal or a cancel routine gets it, and it becomes free. So a slot sends
+// a value from thread to thread, and never shares one.
 unsafe impl<T: Send> Sync for Slots<T> {}
 
 impl<T> Slots<T> {
@@ -100,7 +103,8 @@ impl<T> Slots<T> {
     /// The slot of a number, which is of these slots.
     pub(crate) fn slot<'a>(&'a self, number: &'a mut Number) -> &'a mut Option<T> {
         let cell = &self.cells[number.0 as usize];
-        // SAFETY: whoever has the number has the slot alone, and here it is borrowed for as long as the slot is.
+        // SAFETY: the one that has the number has the slot alone, and here it is borrowed for as
+        // long as the slot is.
         unsafe { &mut *cell.get() }
     }
 

@@ -17,12 +17,13 @@ impl Ticket {
     const LAST: Ticket = Ticket(u64::MAX);
 }
 
-/// Those who wait, for each thing the first of them first. The queue's lock guards it. No call looks through all of them.
+/// Those who wait, for each thing the first of them first. The queue's lock guards it. No call
+/// looks through all of them.
 ///
-/// Whoever waits has found no match, and is taken out when it is woken. A request wakes one of those who wait for any,
-/// and one of those who wait for its file object. So of those who wait for the same, as long as any does, at least as
-/// many were woken and have not looked yet as there are requests for them. One that is woken and doesn't look has to pass
-/// it on.
+/// One that waits has found no match, and is taken out when it is woken. A request wakes one of
+/// those who wait for any, and one of those who wait for its file object. So of those who wait for
+/// the same, as long as any does, at least as many were woken and have not looked yet as there are
+/// requests for them. One that is woken and doesn't look has to pass it on.
 #[derive(Default)]
 pub(crate) struct Waiting {
     /// By the file object, or none for any.
@@ -67,7 +68,8 @@ impl Waiting {
         Ticket(self.tickets)
     }
 
-    /// Takes one out that waits for this and wasn't woken. The caller drops the waker once the lock is free.
+    /// Takes one out that waits for this and wasn't woken. The caller drops the waker once the lock
+    /// is free.
     pub(crate) fn remove(&mut self, peek: Peek, ticket: Ticket) -> Option<Waker> {
         self.waiters.remove(&(file_of(peek), ticket))
     }
@@ -111,7 +113,8 @@ impl Waiting {
         ticket
     }
 
-    /// Takes one out that waits for this and wasn't woken. The caller drops the waker once the lock is free.
+    /// Takes one out that waits for this and wasn't woken. The caller drops the waker once the lock
+    /// is free.
     pub(crate) fn unwatch(&mut self, irp: Irp, ticket: Ticket) -> Option<Waker> {
         self.watchers.remove(&(irp, ticket))
     }
