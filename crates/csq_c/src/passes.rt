@@ -13,7 +13,7 @@ use crate::hold::{put, take};
 use std::alloc::Global;
 
 /// Hands out a pass, one that came back before a new one, under the caller's lock: CSQ_OK, else
-/// CSQ_EMPTY_HANDLE (also of a queue whose number is 0, which nobody has set yet), CSQ_NOT_EMPTY,
+/// CSQ_EMPTY_HANDLE (also for a queue whose number is still 0), CSQ_NOT_EMPTY,
 /// CSQ_CLOSED, CSQ_NO_PASS or CSQ_NO_MEMORY. Own rule.
 #[unsafe(no_mangle)]
 pub extern "C" fn csq_take_pass(alloc: Global, queue: &mut CsqQueue, pass: &mut CsqPass) -> u32

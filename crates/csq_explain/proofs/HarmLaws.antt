@@ -89,7 +89,7 @@ or_parts false false e = (refl, refl)
 or_parts true b e = absurd cc
 or_parts false true e = absurd cc
 
--- whoever names a life names it in its kind
+-- a step that names a life names it in its kind
 name_is : (i : IrpLife) (k : Kind) → names i k ≡ true → name_of k ≡ Some i
 name_is i (Arm j) e = ap Some (same_irp-eq j i e)
 name_is i (Test j) e = ap Some (same_irp-eq j i e)
