@@ -8,7 +8,7 @@ use Rattle.irp_core.specs.Texts.{name_text, pass_text}
 use Rattle.csq_replay.specs.declared.lines.answer.Ended.{Ended}
 use Rattle.csq_replay.specs.declared.schedule.closing.IrpLine.{IrpLine}
 use Rattle.csq_replay.specs.declared.schedule.outcome.Outcome.{Outcome, TheVariants.{Skipped, Accepted, Stopped}}
-use Rattle.csq_replay.specs.Lines.{IsAnswer, RepliesTo}
+use Rattle.csq_replay.specs.Lines.{IsAnswer}
 use Rattle.csq_replay.specs.Schedule.{Numbered, run_of, ReportsLine, answer_text, irp_line_text, rest_text, claim_line, exchanged_irp, Closes, IsScheduleAnswer}
 use Rattle.csq_explain.specs.Endings.{irp_sentence, rest_sentence}
 use Rattle.csq_explain.specs.Reasons.{reason_of, reason_text}
@@ -64,7 +64,3 @@ IsExplanation size claims = IsAnswer (ExplainsLine size) (IsExplainedClosing siz
 abbrev pub IsScheduleText : Bool → Size → Bool → List ℕ → List ℕ → Ended → Type 0
 IsScheduleText true = IsExplanation
 IsScheduleText false = IsScheduleAnswer
-
--- of a reader and a writer whose bytes are known: a schedule was read, and its explanation was written
-abbrev pub ExplainsSchedule : Size → Bool → Option (List ℕ) → Option (List ℕ) → Option (List ℕ) → Option (List ℕ) → Ended → Type 0
-ExplainsSchedule size claims = RepliesTo (IsExplanation size claims)

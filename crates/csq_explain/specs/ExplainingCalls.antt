@@ -3,7 +3,7 @@ use Rattle.std.specs.Prelude.{◌≡◌, ℕ, Bool, true, false, List, [], ◌++
 use Rattle.csq_words.specs.Queue.{Limits}
 use Rattle.csq_replay.specs.declared.lines.answer.Ended.{Ended}
 use Rattle.csq_replay.specs.declared.script.outcome.CallOutcome.{CallOutcome, TheVariants.{Skipped, Answered, Stopped}}
-use Rattle.csq_replay.specs.Lines.{IsAnswer, RepliesTo}
+use Rattle.csq_replay.specs.Lines.{IsAnswer}
 use Rattle.csq_replay.specs.Calls.{Script, new_script}
 use Rattle.csq_replay.specs.ScriptAnswer.{ReportsCall, call_text, IsScriptAnswer}
 use Rattle.csq_explain.specs.CallSentences.{reply_sentence, call_stop_sentence}
@@ -31,7 +31,3 @@ IsScriptExplanation l = IsAnswer (ExplainsCall l) (λ s text. text ≡ explained
 abbrev pub IsScriptText : Bool → Limits → List ℕ → List ℕ → Ended → Type 0
 IsScriptText true = IsScriptExplanation
 IsScriptText false = IsScriptAnswer
-
--- of a reader and a writer whose bytes are known: a script was read, and its explanation was written
-abbrev pub ExplainsScript : Limits → Option (List ℕ) → Option (List ℕ) → Option (List ℕ) → Option (List ℕ) → Ended → Type 0
-ExplainsScript l = RepliesTo (IsScriptExplanation l)

@@ -1,20 +1,17 @@
 //! Schedules, answered line by line, plainly or with a sentence after each line.
-ghost use Rattle.std.specs.Prelude.{◌≡◌, ◌≢◌, ◌++◌, [], if◌then◌else◌, string_bytes, IfOk, IfErr, IfSome, OnOk};
-ghost use Rattle.std.specs.Io.KnownBytes.{Keeps};
+ghost use Rattle.std.specs.Prelude.{◌≡◌, ◌++◌, [], if◌then◌else◌, string_bytes, IfOk, IfSome, OnOk};
 ghost use Rattle.irp_core.specs.Runs.{IsInLimits};
 ghost use Rattle.csq_replay.specs.Lines.{GrewBy};
-ghost use Rattle.csq_replay.specs.Schedule.{RepliesToSchedule};
-ghost use Rattle.csq_explain.specs.Explaining.{ExplainsSchedule, remark};
+ghost use Rattle.csq_explain.specs.Explaining.{remark};
 ghost use Rattle.csq_explain.specs.Explanations.{ExplainsAfter, irps_text, rest_line, noted_claim};
 
 use crate::endings::{IrpSentence, RestSentence};
 use crate::execution::{Execution, Explained};
 use crate::reasons::Reason;
 use crate::sentences::Sentence;
-use csq_replay::{Answerer, Ended, IrpLine, Line, SimFault, reply};
+use csq_replay::{Answerer, IrpLine, Line};
 use irp_core::{Kind, Made};
 use std::alloc::{AllocError, Allocator};
-use std::io::{Read, Write};
 use std::{fmt, str};
 
 /// An execution, a line for each claim that its steps made, whether these lines are asked for, and whether
@@ -183,56 +180,4 @@ impl<A: Allocator + Copy> Answerer<A, Reason> for Explanation<A> {
         self.push_claims(text)?;
         Ok(())
     }
-}
-
-/// Reads a schedule, replays its steps over a machine of IRPs 0 to `irps` - 1 and passes 1 to
-/// `passes`, and writes what each line is answered, and then where each IRP is and whether all is at
-/// rest; with `claims` also each claim.
-///
-/// All of the input is read, up to 1,048,577 bytes; more stays unread. `irps` is 1 to 1,024 and
-/// `passes` 1 to 64. Faults: 1 Memory and 2 Read, after which nothing was written; 3 Write.
-/// Own rule.
-pub fn answer_schedule<A: Allocator + Copy, R: Read, W: Write>(
-    alloc: A,
-    irps: u32,
-    passes: u32,
-    claims: bool,
-    reader: &mut R,
-    writer: &mut W,
-) -> Result<Ended, SimFault>
-    requires { IsInLimits (record { irps = irps; passes = passes; first = 0 }) }
-    ensures answered { IfOk result
-        (RepliesToSchedule (record { irps = irps; passes = passes; first = 0 }) claims
-        (R.remaining reader.old) (R.remaining reader.new) (W.contents writer.old) (W.contents writer.new)) }
-    ensures unwritten { IfErr result (λ fault. fault ≢ SimFault.Write
-        → Keeps (W.contents writer.old) (W.contents writer.new)) }
-{
-    let mut explanation = Explanation::new(alloc, irps, passes, claims, false)?;
-    reply(alloc, &mut explanation, reader, writer)
-}
-
-/// Reads a schedule and writes the answer of `answer_schedule`, each line of it followed by a line of two
-/// spaces and a sentence: what the step did, in the words of the WDK, why a line ends the handling, where an
-/// IRP is, whether all is at rest, and with `claims` who claimed which IRP.
-///
-/// All of the input is read, up to 1,048,577 bytes; more stays unread, and is answered `input too long`
-/// alone. `irps` is 1 to 1,024 and `passes` 1 to 64. Faults: 1 Memory and 2 Read, after which nothing was
-/// written; 3 Write. Own rule.
-pub fn explain_schedule<A: Allocator + Copy, R: Read, W: Write>(
-    alloc: A,
-    irps: u32,
-    passes: u32,
-    claims: bool,
-    reader: &mut R,
-    writer: &mut W,
-) -> Result<Ended, SimFault>
-    requires { IsInLimits (record { irps = irps; passes = passes; first = 0 }) }
-    ensures explained { IfOk result
-        (ExplainsSchedule (record { irps = irps; passes = passes; first = 0 }) claims
-        (R.remaining reader.old) (R.remaining reader.new) (W.contents writer.old) (W.contents writer.new)) }
-    ensures unwritten { IfErr result (λ fault. fault ≢ SimFault.Write
-        → Keeps (W.contents writer.old) (W.contents writer.new)) }
-{
-    let mut explanation = Explanation::new(alloc, irps, passes, claims, true)?;
-    reply(alloc, &mut explanation, reader, writer)
 }

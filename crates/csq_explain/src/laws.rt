@@ -7,12 +7,12 @@ ghost use Rattle.csq_explain.specs.declared.line_steps.LineStep.{LineStep};
 ghost use Rattle.csq_explain.specs.LineSteps.{made_in};
 ghost use Rattle.csq_explain.specs.Laws.{HasOneExplanation, HasOneScriptExplanation, TheWordsAreTheRuns, EachNextStepFindsTheWords, NothingGoesWrongAtRest, BrokenLawsAreHarms};
 
-/// A schedule has at most one explanation, so the relation that `explain_schedule` meets names its bytes.
+/// A schedule has at most one explanation, so the relation that `answer_schedule` meets names its bytes.
 pub fn a_schedule_has_one_explanation()
     ensures { (size : Size) (claims : Bool) (input : List ℕ) → HasOneExplanation size claims input }
 {}
 
-/// A script has at most one explanation, so the relation that `explain_script` meets names its bytes.
+/// A script has at most one explanation, so the relation that `answer_script` meets names its bytes.
 pub fn a_script_has_one_explanation()
     ensures { (l : Limits) (input : List ℕ) → HasOneScriptExplanation l input }
 {}

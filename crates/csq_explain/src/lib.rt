@@ -23,7 +23,7 @@ mod wrong;
 pub use call_sentences::{AnsweredCall, CallStopSentence};
 pub use endings::{IrpSentence, RestSentence};
 pub use execution::{Closing, Execution, Explained};
-pub use explanation::{Explanation, answer_schedule, explain_schedule};
+pub use explanation::Explanation;
 pub use harms::{Harm, HarmAt, NO_HARM};
 pub use irps::{IrpState, LastMove};
 pub use laws::{
@@ -34,7 +34,7 @@ pub use line_steps::LineStep;
 pub use order::Order;
 pub use passes::PassNow;
 pub use reasons::Reason;
-pub use script_explanation::{ScriptExplanation, answer_script, explain_script};
+pub use script_explanation::ScriptExplanation;
 pub use sentences::{DueStatus, InsertWord, Sentence, StatusName, StepInCall};
 pub use word_values::WordValues;
 pub use words::{CALLS, STEPS};

@@ -1,20 +1,16 @@
 //! Scripts, answered line by line, plainly or with a sentence after each line.
-ghost use Rattle.std.specs.Prelude.{◌≡◌, ◌≢◌, ◌≤◌, IfOk, IfErr};
-ghost use Rattle.std.specs.Io.KnownBytes.{Keeps as KeepsBytes};
+ghost use Rattle.std.specs.Prelude.{◌≡◌, ◌≤◌, IfOk};
 ghost use Rattle.csq_list.specs.Listing.{Listing, IsFresh};
 ghost use Rattle.csq_words.specs.Queue.{limits_of};
 ghost use Rattle.csq_replay.specs.Calls.{new_script};
-ghost use Rattle.csq_replay.specs.ScriptAnswer.{RepliesToScript};
-ghost use Rattle.csq_explain.specs.ExplainingCalls.{ExplainsScript};
 ghost use Rattle.csq_explain.specs.ScriptExplanations.{ExplainsScriptAfter};
 
 use crate::call_sentences::{AnsweredCall, CallStopSentence};
 use crate::explanation::add_remark;
 use crate::script_endings::explain_remains;
 use csq_list::PendingList;
-use csq_replay::{Answerer, CallOutcome, CallStop, Driver, Ended, Line, SimFault, reply};
+use csq_replay::{Answerer, CallOutcome, CallStop, Driver, Line};
 use std::alloc::{AllocError, Allocator};
-use std::io::{Read, Write};
 
 /// A driver, and whether its calls are explained.
 #[derive(Drop)]
@@ -92,50 +88,4 @@ impl<L: PendingList, A: Allocator + Copy> Answerer<A, CallStop> for ScriptExplan
         remains.write_lines(text)?;
         Ok(())
     }
-}
-
-/// Reads a script, makes its calls as one pass over a machine and this list, and writes what each is
-/// answered, and then what is listed, held and owed.
-///
-/// All of the input is read, up to 1,048,577 bytes; more stays unread. The list is fresh and has 1 to
-/// 1,024 IRPs. Faults: 1 Memory and 2 Read, after which nothing was written; 3 Write. Own rule.
-pub fn answer_script<L: PendingList + Drop, A: Allocator + Copy, R: Read, W: Write>(
-    alloc: A,
-    list: L,
-    reader: &mut R,
-    writer: &mut W,
-) -> Result<Ended, SimFault>
-    requires fresh { IsFresh (L.listing list) }
-    requires irps { (1 ≤ (L.listing list).irps) × ((L.listing list).irps ≤ 1024) }
-    ensures answered { IfOk result (RepliesToScript (limits_of 1 0 (L.listing list))
-        (R.remaining reader.old) (R.remaining reader.new) (W.contents writer.old) (W.contents writer.new)) }
-    ensures unwritten { IfErr result (λ fault. fault ≢ SimFault.Write
-        → KeepsBytes (W.contents writer.old) (W.contents writer.new)) }
-{
-    let mut explanation = ScriptExplanation::new(alloc, list, false)?;
-    reply(alloc, &mut explanation, reader, writer)
-}
-
-/// Reads a script and writes the answer of `answer_script`, each line of it followed by a line of two spaces and
-/// a sentence: what the call did, in the words of the WDK, or why it is refused or a line ends the script, and
-/// what is listed, held and owed in the end.
-///
-/// All of the input is read, up to 1,048,577 bytes; more stays unread, and is answered `input too long` alone.
-/// The list is fresh and has 1 to 1,024 IRPs. Faults: 1 Memory and 2 Read, after which nothing was written; 3
-/// Write. Own rule.
-pub fn explain_script<L: PendingList + Drop, A: Allocator + Copy, R: Read, W: Write>(
-    alloc: A,
-    list: L,
-    reader: &mut R,
-    writer: &mut W,
-) -> Result<Ended, SimFault>
-    requires fresh { IsFresh (L.listing list) }
-    requires irps { (1 ≤ (L.listing list).irps) × ((L.listing list).irps ≤ 1024) }
-    ensures explained { IfOk result (ExplainsScript (limits_of 1 0 (L.listing list))
-        (R.remaining reader.old) (R.remaining reader.new) (W.contents writer.old) (W.contents writer.new)) }
-    ensures unwritten { IfErr result (λ fault. fault ≢ SimFault.Write
-        → KeepsBytes (W.contents writer.old) (W.contents writer.new)) }
-{
-    let mut explanation = ScriptExplanation::new(alloc, list, true)?;
-    reply(alloc, &mut explanation, reader, writer)
 }

@@ -3,3 +3,4 @@ mod Numbers
 mod RunTexts
 mod Drawings
 mod FirstLines
+mod Endings

@@ -1,6 +1,7 @@
 //! The program `csqsim`: its command line, and what its commands do.
 #![tactic(auto)]
 
+mod answer;
 mod command;
 mod cut;
 mod device_run;
@@ -11,9 +12,11 @@ mod program;
 mod replay;
 mod run_options;
 mod source;
+mod stream;
 mod totals_text;
 mod visible;
 
+pub use answer::{answer_drawing, answer_schedule, answer_script};
 pub use command::{CommandFault, Job, read_command, refuse_bytes};
 pub use device_run::{RunFault, answer_run};
 pub use draw_options::{CrossedLines, NoSuchIrp};

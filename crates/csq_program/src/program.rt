@@ -1,16 +1,18 @@
 //! The program: its exit status, and what each command does.
 ghost use Rattle.std.specs.Prelude.{◌≡◌, IfOk, IfErr};
 ghost use Rattle.csq_program.specs.Jobs.{IsInRange};
+ghost use Rattle.csq_program.specs.Replays.{WritesJob};
 
 use crate::command::{CommandFault, Job, read_command, refuse_bytes};
 use crate::device_run::{RunFault, answer_runs};
 use crate::replay::{ScriptLimits, run_drawing, run_limited_script, run_schedule};
 use crate::source::SourceFault;
+use crate::stream::WithFault;
 use crate::visible::Visible;
 use csq_replay::SimFault;
 use std::alloc::AllocError;
 use std::io;
-use std::io::ErrorKind;
+use std::io::{ErrorKind, Write};
 use std::process::ExitCode;
 use std::rt::{Clock, Env, Files};
 use std::sync::Wait;
@@ -85,13 +87,13 @@ where
     }
 }
 
-/// Does what these words ask for.
+/// Does what these words ask for, to standard output.
 fn run_words<R>(rt: &R, words: &[String]) -> Result<u8, ProgramFault>
 where
     R: AllocGlobal + Print + Eprint + Input + Clock + Files + Threads + Wait + Sync,
 {
     match read_command(rt.alloc(), words) {
-        Ok(job) => run_job(rt, job),
+        Ok(job) => run_job(rt, job, &mut WithFault::new(io::writer(rt))),
         Err(fault) => report_command_fault(rt, fault),
     }
 }
@@ -129,11 +131,14 @@ fn report_command_fault<R: AllocGlobal + Print + Eprint>(
     }
 }
 
-/// Runs a command to standard output.
-fn run_job<R>(rt: &R, job: Job<'_>) -> Result<u8, ProgramFault>
+/// Runs a command, and writes its answer.
+fn run_job<R, W>(rt: &R, job: Job<'_>, writer: &mut WithFault<W>) -> Result<u8, ProgramFault>
 where
-    R: AllocGlobal + Print + Eprint + Input + Clock + Files + Threads + Wait + Sync,
+    R: AllocGlobal + Eprint + Input + Clock + Files + Threads + Wait + Sync,
+    W: Write,
     requires { IsInRange job }
+    ensures { IfOk result (WritesJob job.entry
+        (W.contents writer.old.stream) (W.contents writer.new.stream)) }
 {
     match job {
         Job::Schedule {
@@ -143,7 +148,7 @@ where
             claims,
             explain,
             wrong,
-        } => run_schedule(rt, source, irps, passes, claims, explain, wrong),
+        } => run_schedule(rt, source, irps, passes, claims, explain, wrong, writer),
         Job::Draw {
             source,
             irps,
@@ -151,7 +156,7 @@ where
             view,
             to,
             wrong,
-        } => run_drawing(rt, source, irps, passes, view, to, wrong),
+        } => run_drawing(rt, source, irps, passes, view, to, wrong, writer),
         Job::Script {
             source,
             irps,
@@ -162,7 +167,7 @@ where
             explain,
         } => {
             let limits = ScriptLimits::new(irps, files, limit, file_limit);
-            run_limited_script(rt, source, list, limits, explain)
+            run_limited_script(rt, source, list, limits, explain, writer)
         }
         Job::Run {
             plan,
@@ -170,7 +175,7 @@ where
             totals,
             repeat,
         } => {
-            answer_runs(rt, plan, list, totals, repeat, &mut io::writer(rt))?;
+            answer_runs(rt, plan, list, totals, repeat, writer)?;
             Ok(DONE)
         }
     }

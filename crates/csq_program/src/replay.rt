@@ -1,30 +1,31 @@
-//! Schedules and scripts of the command line: read, answered and written.
+//! Schedules and scripts of the command line: read from their source, and answered.
 ghost use Rattle.std.specs.Prelude.{◌≡◌, ◌≤◌, Ok, Err, IfOk, IfErr, replicate};
+ghost use Rattle.std.specs.Io.KnownBytes.{Keeps};
 ghost use Rattle.irp_core.specs.Runs.{IsInLimits};
 ghost use Rattle.irp_core.specs.declared.refusals.SizeRefused.TheVariants.{BadSize};
 ghost use Rattle.csq_list.specs.Listing.{IsFresh};
-ghost use Rattle.csq_draw.specs.Pictures.{IsDrawing};
-ghost use Rattle.csq_diagnose.specs.Reports.{IsReport};
-ghost use Rattle.csq_diagnose.specs.Schedules.{IsScheduleDiagnosis};
-ghost use Rattle.csq_replay.specs.declared.lines.answer.Ended.TheVariants as Ended;
+ghost use Rattle.csq_words.specs.Queue.{limits_of};
 ghost use Rattle.csq_program.specs.declared.program.ProgramFault.TheVariants.{Replay};
-ghost use Rattle.csq_program.specs.Cuts.{drawn_input};
-ghost use Rattle.csq_program.specs.Replays.{limits_or_all, IsWriteFault, IsWrongDrawingReport};
+ghost use Rattle.csq_program.specs.Replays.{limits_or_all, IsWriteFault, IsReplayReport, IsDrawnReport, IsScriptReport, LeadsTo, WritesReport, WritesScript};
 
-use crate::cut::cut_input;
+use crate::answer::{
+    answer_drawing, answer_schedule, answer_script, answer_wrong_drawing, answer_wrong_order,
+};
 use crate::program::{ProgramFault, REFUSED};
 use crate::source::Source;
-use csq_diagnose::{Report, report_input, report_schedule, report_script, report_wrong_order};
-use csq_draw::{Drawing, View, WrongDrawing};
+use crate::stream::WithFault;
+use csq_diagnose::Report;
+use csq_draw::View;
 use csq_list::{AnyList, ListKind, PendingList};
 use csq_replay::{Ended, SimFault, exit_status};
 use irp_core::SizeRefused;
 use std::alloc::{AllocError, Allocator, Global};
 use std::fmt;
+use std::io::{Error, Write};
 use std::rt::Files;
 
 /// Replays a schedule, plainly or with a sentence after each line of its answer, or as one that may break the protocol.
-pub(crate) fn run_schedule<R: AllocGlobal + Print + Eprint + Input + Files>(
+pub(crate) fn run_schedule<R: AllocGlobal + Eprint + Input + Files, W: Write>(
     rt: &R,
     source: Source<'_>,
     irps: u32,
@@ -32,57 +33,34 @@ pub(crate) fn run_schedule<R: AllocGlobal + Print + Eprint + Input + Files>(
     claims: bool,
     explain: bool,
     wrong: bool,
+    writer: &mut WithFault<W>,
 ) -> Result<u8, ProgramFault>
     requires { IsInLimits (record { irps = irps; passes = passes; first = 0 }) }
+    ensures answered { IfOk result (WritesReport (IsReplayReport
+        (record { irps = irps; passes = passes; first = 0 }) claims explain wrong)
+        (W.contents writer.old.stream) (W.contents writer.new.stream)) }
+    ensures unwritten { IfErr result (λ fault. ¬ IsWriteFault fault
+        → Keeps (W.contents writer.old.stream) (W.contents writer.new.stream)) }
 {
-    let input = source.read(rt)?;
-    let report = if wrong {
-        report_wrong_order(rt.alloc(), irps, passes, &input)?
+    let mut reader = source.open(rt)?;
+    let answered = if wrong {
+        answer_wrong_order(rt.alloc(), irps, passes, &mut reader, writer)
     } else {
-        report_schedule(rt.alloc(), irps, passes, claims, explain, &input)?
+        answer_schedule(
+            rt.alloc(),
+            irps,
+            passes,
+            claims,
+            explain,
+            &mut reader,
+            writer,
+        )
     };
-    finish(rt, source, &report)
-}
-
-/// Draws a schedule up to the line that is named, and diagnoses it: its steps are made once.
-fn report_drawing(
-    alloc: Global,
-    irps: u32,
-    passes: u32,
-    view: View,
-    to: Option<u32>,
-    input: &[u8],
-) -> Result<Report<Global>, AllocError>
-    requires { IsInLimits (record { irps = irps; passes = passes; first = 0 }) }
-    ensures { IfOk result
-        (IsReport (IsDrawing (record { irps = irps; passes = passes; first = 0 }) view)
-        (IsScheduleDiagnosis (record { irps = irps; passes = passes; first = 0 }))
-        (drawn_input to input.now)) }
-{
-    let mut drawing = Drawing::new(alloc, irps, passes, view)?;
-    report_input(alloc, &mut drawing, cut_input(input, to))
-}
-
-/// Draws a schedule that may break the protocol up to the line that is named, and diagnoses it.
-fn report_wrong_drawing(
-    alloc: Global,
-    irps: u32,
-    passes: u32,
-    view: View,
-    to: Option<u32>,
-    input: &[u8],
-) -> Result<Report<Global>, AllocError>
-    requires { IsInLimits (record { irps = irps; passes = passes; first = 0 }) }
-    ensures { IfOk result
-        (IsWrongDrawingReport (record { irps = irps; passes = passes; first = 0 }) view
-        (drawn_input to input.now)) }
-{
-    let mut drawing = WrongDrawing::new(alloc, irps, passes, view)?;
-    report_input(alloc, &mut drawing, cut_input(input, to))
+    finish(rt, source, answered, reader.fault, writer.fault)
 }
 
 /// Draws a schedule up to the line that is named, or as one that may break the protocol.
-pub(crate) fn run_drawing<R: AllocGlobal + Print + Eprint + Input + Files>(
+pub(crate) fn run_drawing<R: AllocGlobal + Eprint + Input + Files, W: Write>(
     rt: &R,
     source: Source<'_>,
     irps: u32,
@@ -90,16 +68,22 @@ pub(crate) fn run_drawing<R: AllocGlobal + Print + Eprint + Input + Files>(
     view: View,
     to: Option<u32>,
     wrong: bool,
+    writer: &mut WithFault<W>,
 ) -> Result<u8, ProgramFault>
     requires { IsInLimits (record { irps = irps; passes = passes; first = 0 }) }
+    ensures answered { IfOk result (WritesReport (IsDrawnReport
+        (record { irps = irps; passes = passes; first = 0 }) view to wrong)
+        (W.contents writer.old.stream) (W.contents writer.new.stream)) }
+    ensures unwritten { IfErr result (λ fault. ¬ IsWriteFault fault
+        → Keeps (W.contents writer.old.stream) (W.contents writer.new.stream)) }
 {
-    let input = source.read(rt)?;
-    let report = if wrong {
-        report_wrong_drawing(rt.alloc(), irps, passes, view, to, &input)?
+    let mut reader = source.open(rt)?;
+    let answered = if wrong {
+        answer_wrong_drawing(rt.alloc(), irps, passes, view, to, &mut reader, writer)
     } else {
-        report_drawing(rt.alloc(), irps, passes, view, to, &input)?
+        answer_drawing(rt.alloc(), irps, passes, view, to, &mut reader, writer)
     };
-    finish(rt, source, &report)
+    finish(rt, source, answered, reader.fault, writer.fault)
 }
 
 /// What stands between the name of a file and a diagnosis: nothing before a line and a column, else a space.
@@ -110,27 +94,35 @@ fn before_diagnosis(diagnosis: &str) -> &'static str {
     }
 }
 
-/// Writes an answer, and on standard error why a line ended the handling, and gives the exit status. Both were
-/// kept in memory, so that nothing is written if memory is refused. If standard error can't be written, the
-/// status is the same.
-fn finish<R: Print + Eprint>(
-    rt: &R,
-    source: Source<'_>,
-    report: &Report<Global>,
-) -> Result<u8, ProgramFault>
-    ensures all { report.now.ended ≡ Ended.AllHandled → IfOk result (λ status. status ≡ 0) }
-    ensures stopped { report.now.ended ≡ Ended.Stopped → IfOk result (λ status. status ≡ 2) }
-    ensures fault { IfErr result IsWriteFault }
-{
-    if let Err(cause) = rt.write_all(report.text.as_bytes()) {
-        return Err(ProgramFault::Write(cause));
-    }
+/// Says on standard error why a line ended the handling, if one did. If that can't be written, nothing else changes.
+fn print_diagnosis<E: Eprint>(rt: &E, source: Source<'_>, report: &Report<Global>) {
     if let Ended::Stopped = report.ended {
         let diagnosis = report.diagnosis.as_str();
         let between = before_diagnosis(diagnosis);
         let _ = eprint!(rt; "{source}{between}{diagnosis}");
     }
-    Ok(exit_status(report.ended))
+}
+
+/// What an answer leads to: the exit status, after it is said on standard error why a line ended the handling; or the
+/// program's fault, for the cause that the reader or the writer has kept.
+fn finish<R: AllocGlobal + Eprint>(
+    rt: &R,
+    source: Source<'_>,
+    answered: Result<Report<Global>, SimFault>,
+    read: Error,
+    written: Error,
+) -> Result<u8, ProgramFault>
+    ensures { LeadsTo answered result }
+{
+    match answered {
+        Ok(report) => {
+            print_diagnosis(rt, source, &report);
+            Ok(exit_status(report.ended))
+        }
+        Err(SimFault::Memory) => Err(ProgramFault::from(AllocError)),
+        Err(SimFault::Read) => Err(ProgramFault::Source(source.fault(rt.alloc(), read))),
+        Err(SimFault::Write) => Err(ProgramFault::Write(written)),
+    }
 }
 
 /// The sizes of a script's list.
@@ -177,14 +169,19 @@ fn file_limits_of<A: Allocator>(
 }
 
 /// Runs a script over a list of this kind and these sizes.
-pub(crate) fn run_limited_script<R: AllocGlobal + Print + Eprint + Input + Files>(
+pub(crate) fn run_limited_script<R: AllocGlobal + Eprint + Input + Files, W: Write>(
     rt: &R,
     source: Source<'_>,
     kind: ListKind,
     limits: ScriptLimits,
     explain: bool,
+    writer: &mut WithFault<W>,
 ) -> Result<u8, ProgramFault>
     requires { (1 ≤ limits.irps) × (limits.irps ≤ 1024) }
+    ensures answered { IfOk result (WritesScript limits explain
+        (W.contents writer.old.stream) (W.contents writer.new.stream)) }
+    ensures unwritten { IfErr result (λ fault. ¬ IsWriteFault fault
+        → Keeps (W.contents writer.old.stream) (W.contents writer.new.stream)) }
 {
     let ScriptLimits {
         irps,
@@ -194,25 +191,33 @@ pub(crate) fn run_limited_script<R: AllocGlobal + Print + Eprint + Input + Files
     } = limits;
     let file_limits = file_limits_of(rt.alloc(), files, file_limit)?;
     let list = AnyList::with_file_limits(rt.alloc(), kind, irps, files, limit, &file_limits);
-    run_script(rt, source, limits, list, explain)
+    run_script(rt, source, limits, list, explain, writer)
 }
 
 /// Runs a script over a fresh list, if there is one. Its size is refused before anything is read.
-fn run_script<L: PendingList + Drop, R: AllocGlobal + Print + Eprint + Input + Files>(
+fn run_script<L: PendingList + Drop, R: AllocGlobal + Eprint + Input + Files, W: Write>(
     rt: &R,
     source: Source<'_>,
     limits: ScriptLimits,
     list: Result<L, SizeRefused>,
     explain: bool,
+    writer: &mut WithFault<W>,
 ) -> Result<u8, ProgramFault>
     requires fresh { IfOk list (λ l. IsFresh (L.listing l)) }
     requires irps { IfOk list (λ l. (1 ≤ (L.listing l).irps) × ((L.listing l).irps ≤ 1024)) }
     ensures memory { IfErr list
         (λ refused. refused ≡ SizeRefused.Memory → result ≡ Err (Replay SimFault.Memory)) }
     ensures bad_size { IfErr list (λ refused. refused ≡ BadSize → result ≡ Ok 2) }
+    ensures answered { IfOk list (λ l. IfOk result (WritesReport
+        (IsScriptReport (limits_of 1 0 (L.listing l)) explain)
+        (W.contents writer.old.stream) (W.contents writer.new.stream))) }
+    ensures kept { IfErr list (λ refused.
+        Keeps (W.contents writer.old.stream) (W.contents writer.new.stream)) }
+    ensures unwritten { IfErr result (λ fault. ¬ IsWriteFault fault
+        → Keeps (W.contents writer.old.stream) (W.contents writer.new.stream)) }
 {
     match list {
-        Ok(list) => run_list(rt, source, list, explain),
+        Ok(list) => run_list(rt, source, list, explain, writer),
         Err(SizeRefused::Memory) => Err(ProgramFault::from(AllocError)),
         Err(SizeRefused::BadSize) => {
             report_bad_size(rt, limits);
@@ -222,18 +227,24 @@ fn run_script<L: PendingList + Drop, R: AllocGlobal + Print + Eprint + Input + F
 }
 
 /// Runs a script over a fresh list.
-fn run_list<L: PendingList + Drop, R: AllocGlobal + Print + Eprint + Input + Files>(
+fn run_list<L: PendingList + Drop, R: AllocGlobal + Eprint + Input + Files, W: Write>(
     rt: &R,
     source: Source<'_>,
     list: L,
     explain: bool,
+    writer: &mut WithFault<W>,
 ) -> Result<u8, ProgramFault>
     requires fresh { IsFresh (L.listing list) }
     requires irps { (1 ≤ (L.listing list).irps) × ((L.listing list).irps ≤ 1024) }
+    ensures answered { IfOk result (WritesReport
+        (IsScriptReport (limits_of 1 0 (L.listing list)) explain)
+        (W.contents writer.old.stream) (W.contents writer.new.stream)) }
+    ensures unwritten { IfErr result (λ fault. ¬ IsWriteFault fault
+        → Keeps (W.contents writer.old.stream) (W.contents writer.new.stream)) }
 {
-    let input = source.read(rt)?;
-    let report = report_script(rt.alloc(), list, explain, &input)?;
-    finish(rt, source, &report)
+    let mut reader = source.open(rt)?;
+    let answered = answer_script(rt.alloc(), list, explain, &mut reader, writer);
+    finish(rt, source, answered, reader.fault, writer.fault)
 }
 
 /// A limit that is above the number of IRPs.

@@ -1,11 +1,9 @@
 //! Where a schedule or a script is read from.
-ghost use Rattle.std.specs.Prelude.{◌≡◌, take, IfOk, IfSome};
-ghost use Rattle.csq_program.specs.Sources.{read_limit};
-
+use crate::stream::WithFault;
 use crate::visible::Visible;
-use csq_replay::{MAX_INPUT, SimFault};
+use either::{Either, Left, Right};
 use std::alloc::{AllocError, Global};
-use std::io::{ErrorKind, Read};
+use std::io::ErrorKind;
 use std::rt::Files;
 use std::{fmt, fs, io};
 use thiserror::Error;
@@ -52,7 +50,7 @@ impl From<AllocError> for SourceFault {
 
 impl<'a> Source<'a> {
     /// Why this source could not be read, if an operation on it failed so.
-    fn fault(self, alloc: Global, cause: io::Error) -> SourceFault {
+    pub(crate) fn fault(self, alloc: Global, cause: io::Error) -> SourceFault {
         if cause.kind() == ErrorKind::OutOfMemory {
             return SourceFault::Memory;
         }
@@ -65,33 +63,17 @@ impl<'a> Source<'a> {
         }
     }
 
-    /// Reads all bytes, or the first 1,048,577 if there are more: one more than is handled.
-    pub(crate) fn read<R: AllocGlobal + Input + Files>(
+    /// Opens it.
+    pub(crate) fn open<R: AllocGlobal + Input + Files>(
         self,
         rt: &R,
-    ) -> Result<Vec<u8>, SourceFault> {
-        let read = match self {
-            Source::Standard => read_bytes(rt.alloc(), rt.reader()),
-            Source::File(name) => read_file(rt, name),
-        };
-        match read {
-            Ok(bytes) => Ok(bytes),
-            Err(cause) => Err(self.fault(rt.alloc(), cause)),
+    ) -> Result<WithFault<Either<R::Reader, R::File>>, SourceFault> {
+        match self {
+            Source::Standard => Ok(WithFault::new(Left(rt.reader()))),
+            Source::File(name) => match fs::open(rt, name) {
+                Ok(file) => Ok(WithFault::new(Right(file))),
+                Err(cause) => Err(self.fault(rt.alloc(), cause)),
+            },
         }
     }
-}
-
-/// The bytes of a file.
-fn read_file<R: AllocGlobal + Files>(rt: &R, name: &str) -> io::Result<Vec<u8>> {
-    read_bytes(rt.alloc(), fs::open(rt, name)?)
-}
-
-/// All bytes of a reader, or the first 1,048,577 if there are more.
-fn read_bytes<R: Read + Drop>(alloc: Global, reader: R) -> io::Result<Vec<u8>>
-    ensures { IfOk result
-        (λ bytes. IfSome (R.remaining reader) (λ given. bytes.items ≡ take read_limit given)) }
-{
-    let mut bytes = Vec::new(alloc);
-    reader.take(MAX_INPUT as u64 + 1).read_to_end(&mut bytes)?;
-    Ok(bytes)
 }

@@ -1,7 +1,8 @@
 //! What is answered: the kinds of answers, and inputs with what comes of them.
-use csq_draw::{draw_schedule, draw_schedule_as_text};
-use csq_explain::{answer_schedule, answer_script, explain_schedule, explain_script};
+use csq_diagnose::Report;
+use csq_draw::{Format, View};
 use csq_list::{AnyList, ListKind};
+use csq_program::{answer_drawing, answer_schedule, answer_script};
 use csq_replay::{Ended, SimFault};
 use std::alloc::{Allocator, Global};
 use std::io::{Read, Write};
@@ -157,10 +158,11 @@ line 3: p3 arm 1 refused LockHeld p1
         true,
         "pending\npending\nclaimed\nirp 1\ncompleted C000009A\nlife 1\nleft 0\nowed 0\n",
     ),
-    // Two refusals, and a line that ends the script.
+    // Two refusals, and a line that ends the script. (For a word that is unknown the diagnosis looks for a similar one,
+    // which it does without memory if that is refused.)
     (
         Asked::ExplainedScript,
-        "flag 8\nclose 4\n\nflog 0\nflag 0\n",
+        "flag 8\nclose 4\n\nflag  0\nflag 0\n",
         Ended::Stopped,
         true,
         "\
@@ -189,22 +191,38 @@ line 4 malformed
     ),
 ];
 
-/// Replies to a schedule, or draws it.
+/// Draws a schedule whole.
+fn draw<A: Allocator + Copy, R: Read, W: Write>(
+    alloc: A,
+    format: Format,
+    reader: &mut R,
+    writer: &mut W,
+) -> Result<Report<A>, SimFault> {
+    let view = View {
+        format,
+        window: None,
+    };
+    answer_drawing(alloc, 8, 4, view, None, reader, writer)
+}
+
+/// Answers a schedule, or draws it.
 fn answer_steps<A: Allocator + Copy, R: Read, W: Write>(
     alloc: A,
     asked: Asked,
     reader: &mut R,
     writer: &mut W,
-) -> Result<Ended, SimFault> {
+) -> Result<Report<A>, SimFault> {
     match asked {
-        Asked::ExplainedSchedule => explain_schedule(alloc, 8, 4, true, reader, writer),
-        Asked::Picture => draw_schedule(alloc, 8, 4, reader, writer),
-        Asked::PictureAsText => draw_schedule_as_text(alloc, 8, 4, reader, writer),
-        _ => answer_schedule(alloc, 8, 4, true, reader, writer),
+        Asked::Picture => draw(alloc, Format::Svg, reader, writer),
+        Asked::PictureAsText => draw(alloc, Format::Text, reader, writer),
+        _ => {
+            let explains = asked == Asked::ExplainedSchedule;
+            answer_schedule(alloc, 8, 4, true, explains, reader, writer)
+        }
     }
 }
 
-/// Replies to a script over a list of this kind, whose memory is other memory.
+/// Answers a script over a list of this kind, whose memory is other memory.
 fn answer_calls<A: Allocator + Copy, R: Read, W: Write>(
     alloc: A,
     lists: Global,
@@ -212,11 +230,19 @@ fn answer_calls<A: Allocator + Copy, R: Read, W: Write>(
     asked: Asked,
     reader: &mut R,
     writer: &mut W,
-) -> Result<Ended, SimFault> {
+) -> Result<Report<A>, SimFault> {
+    let explains = asked == Asked::ExplainedScript;
     match AnyList::new(lists, kind, 8, 4, 8) {
-        Ok(list) if asked == Asked::Script => answer_script(alloc, list, reader, writer),
-        Ok(list) => explain_script(alloc, list, reader, writer),
+        Ok(list) => answer_script(alloc, list, explains, reader, writer),
         Err(_) => Err(SimFault::Memory),
+    }
+}
+
+/// How a report ended, of which nothing else is kept.
+fn ended_of<A: Allocator>(answered: Result<Report<A>, SimFault>) -> Result<Ended, SimFault> {
+    match answered {
+        Ok(report) => Ok(report.ended),
+        Err(fault) => Err(fault),
     }
 }
 
@@ -229,10 +255,11 @@ pub(super) fn answer<A: Allocator + Copy, R: Read, W: Write>(
     reader: &mut R,
     writer: &mut W,
 ) -> Result<Ended, SimFault> {
-    match asked {
+    let answered = match asked {
         Asked::Script | Asked::ExplainedScript => {
             answer_calls(alloc, lists, kind, asked, reader, writer)
         }
         _ => answer_steps(alloc, asked, reader, writer),
-    }
+    };
+    ended_of(answered)
 }
