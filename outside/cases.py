@@ -17,6 +17,8 @@ case without `rows` is one row. The keys:
     counts          lines of the output, by their words, and the number behind them, or [least, most]
     status          the exit status, 0 unless it is given
 
+An output that begins with <svg is a picture, and has to be well-formed XML.
+
 A text is a string; or a list of strings, bytes as numbers, { text = .., times = .. }, { file = .. } from the top of the
 repository, and { named = .. } of the file's table `texts`."""
 import contextlib
@@ -25,6 +27,7 @@ import pathlib
 import re
 import tempfile
 import tomllib
+import xml.etree.ElementTree
 
 from program import HERE, TOP, Trouble, command_line, shown
 
@@ -121,6 +124,8 @@ class Case:
             yield from self.differences_of('errors', got.errors)
         for words, wanted in self.keys.get('counts', {}).items():
             yield from self.miscounted(words, wanted, got.output)
+        if got.output.startswith(b'<svg'):
+            yield from wrong_picture(got.output)
         wanted = self.keys.get('status', 0)
         if got.status != wanted:
             yield f'status {got.status} in place of {wanted}'
@@ -150,6 +155,14 @@ class Case:
             yield f'no line has {words} and a number'
         elif not least <= int(found.group(1)) <= most:
             yield f'{found.group(0).decode()} in place of {wanted}'
+
+
+def wrong_picture(text):
+    """Yields why a picture is no well-formed XML, if it is none."""
+    try:
+        xml.etree.ElementTree.fromstring(text)
+    except xml.etree.ElementTree.ParseError as error:
+        yield f'the picture is no XML: {error}'
 
 
 def first_difference(stream, got, wanted):

@@ -1,10 +1,11 @@
-"""What the tests of measures.py and refusals.py find in the ends of a program that were written by hand: nothing in
+"""What the tests of measures.py and refusals.py, and the one of pictures, find in the ends of a program that were written by hand: nothing in
 right ones, and something in wrong ones. So a test that looks at nothing is noticed."""
 import re
 from types import SimpleNamespace
 
 import measures
 import refusals
+from cases import wrong_picture
 from measures import KINDS, wrong_block, wrong_races, wrong_start, wrong_sums, wrong_time, wrong_totals
 from program import Ended
 from refusals import NO_MEMORY, NO_READ, NO_THREAD, NO_WRITE, ONE_RUN, wrong_memory, wrong_reads, wrong_slowly, wrong_threads, wrong_writes
@@ -128,6 +129,7 @@ def wrong_ends():
     yield 'reads that are not reported', wrong_reads(always(b'all'), [], b'p1 end\n', NO_READ)
     slow = ends(lambda settings: (Ended(b'half' if 'INTERRUPTED' in settings else b'whole', b'', 0), b''))
     yield 'an answer that is cut', wrong_slowly(slow, [], b'')
+    yield 'a picture with a bare ampersand', wrong_picture(b'<svg>a & b</svg>')
 
 
 def wrong_judges():

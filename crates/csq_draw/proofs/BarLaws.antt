@@ -2,7 +2,7 @@
 use Rattle.std.proofs.Common.{◌≡◌, ◌||◌, ℕ, zero, suc, ◌+◌, ◌<◌, ◌≤◌, Bool, true, false, cond, List, [], ◌∷◌, ◌++◌, length, replicate, take, Option, Some, None, refl, ap, sym, ◌∙◌, subst, arith}
 use Rattle.std.specs.Prelude.{is_some}
 use Rattle.std.specs.List.{list_any}
-use Rattle.csq_draw.proofs.Imports.{count-more, option_map, option_map_or, length-take-le, take_all, take_more, IrpId, IrpLife, Kind, Made, Size, IsRun, OfIrp, Owner, PassId, number, name_of, same_id, same_id-eq, Numbered, run_of, all_passes, is_of_irp, Row, IrpNow, Seen, Spot, above_elements, arrow_elements, bars_elements, behind_elements, call_elements, closed_elements, column_elements, each, fresh_irps, irp_after, irp_at, irp_named, irps_of, last_elements, mark_element, new_irp, open_elements, owners_elements, reason_of, refused_elements, row_after, rows_elements, shade_elements, shown_elements, span_elements, steps_shown, word_elements}
+use Rattle.csq_draw.proofs.Imports.{count-more, option_map, option_map_or, length-take-le, take_all, take_more, IrpId, IrpLife, Kind, Made, Size, IsRun, OfIrp, Owner, PassId, number, name_of, same_id, same_id-eq, Numbered, run_of, all_passes, is_of_irp, Row, IrpNow, LastSeen, Spot, above_elements, arrow_elements, bars_elements, behind_elements, call_elements, closed_elements, column_elements, each, fresh_irps, irp_after, irp_at, irp_named, irps_of, last_elements, mark_element, new_irp, open_elements, owners_elements, reason_of, refused_elements, row_after, rows_elements, shade_elements, shown_elements, span_elements, steps_shown, word_elements}
 use Rattle.irp_core.proofs.Growing.{run_less}
 use Rattle.irp_core.specs.Lives.{present}
 use Rattle.irp_core.specs.declared.step.Kind.TheVariants.{Arm, Test, Disarm, End, Flag, Take, Out, Done, Renew, Rearm}
@@ -25,7 +25,7 @@ use Rattle.csq_draw.proofs.Showing.{length-rows}
 use Rattle.csq_explain.specs.declared.passes.PassNow.{PassNow}
 
 -- which bars elements are, and which have none
-a_bar : (passes : List PassNow) (place to : ℕ) (to_the_end : Bool) (last : Option Seen) → picked bars_in (bars_elements (columns passes) place to to_the_end last) ≡ bars_from passes place to to_the_end last
+a_bar : (passes : List PassNow) (place to : ℕ) (to_the_end : Bool) (last : Option LastSeen) → picked bars_in (bars_elements (columns passes) place to to_the_end last) ≡ bars_from passes place to to_the_end last
 a_bar passes place to to_the_end (Some seen) = refl
 a_bar passes place to to_the_end None = refl
 
@@ -69,12 +69,12 @@ row_bars passes irps before row =
 
 module _ (size : Size) where
   -- a step of IRP n is the last one of that IRP
-  named : (w : Numbered) (W : List Numbered) (n : IrpId) (before : Option Seen) (o : Option IrpLife) → option_map_or (λ i. same_id i.irp n) o false ≡ true
+  named : (w : Numbered) (W : List Numbered) (n : IrpId) (before : Option LastSeen) (o : Option IrpLife) → option_map_or (λ i. same_id i.irp n) o false ≡ true
       → last_by (length W) (option_map (λ i. words_of (run_of (w ∷ W)) (present size.first (run_of (w ∷ W)) i.irp)) o) before ≡ Some (record { row = length W; words = words_of (run_of (w ∷ W)) (present size.first (run_of (w ∷ W)) n) })
   named w W n before None e = absurd (cc e)
   named w W n before (Some i) e =
       let E = run_of (w ∷ W) in
-      ap (λ m. let seen : Seen = record { row = length W; words = words_of E (present size.first E m) } in Some seen) (same_id-eq i.irp n e)
+      ap (λ m. let seen : LastSeen = record { row = length W; words = words_of E (present size.first E m) } in Some seen) (same_id-eq i.irp n e)
 
   -- what is known of IRP n is what was seen last of it
   last_is : (W : List Numbered) (n : IrpId) → n.0 < size.irps → (irp_at (irps_of size W) n).last ≡ last_seen size n W

@@ -1,24 +1,20 @@
 -- The names that several proof files of this crate import, each from its home.
-pub use Rattle.csq_draw.specs.Captions.{CaptionText, caption_after, ended_caption, escaped, escaped_character}
 pub use Rattle.csq_draw.specs.Arrows.{found_at}
-pub use Rattle.csq_draw.specs.Drawings.{DrawingStandsAfter, NotesStep, Shows, drawing_shown, owner_in, with_owner}
-pub use Rattle.csq_draw.specs.Elements.{element_text, elements_text, picture}
+pub use Rattle.csq_draw.specs.Drawings.{DrawingStands, Drawn, NotesStep, Shows, drawn_rows, drawn_shown, order_shown, owner_in, with_owner}
+pub use Rattle.csq_draw.specs.Elements.{Drew, with_all}
 pub use Rattle.csq_draw.specs.Owners.{ended_by, is_of_irp, owner, owner_after, owner_by, owner_named, owners}
 pub use Rattle.csq_draw.specs.Passes.{column_of, columns, lock_at, lock_of}
-pub use Rattle.csq_draw.specs.Irps.{irp_after, irp_at, irp_columns, irp_named, irps_after, new_irp, with_irp}
-pub use Rattle.csq_draw.specs.Pictures.{Drawn, DrawsClosing, DrawsLine, EndShown, Shown, above_elements, arrow_elements, bars_elements, behind_elements, call_elements, close_of, closed_elements, closing_elements, column_elements, drawn_after, drawn_text, each, end_of, fresh_irps, irps_of, last_elements, mark_element, new_drawn, number_element, open_elements, owners_elements, picture_head, picture_of, refused_elements, row_after, rows_elements, seen, shade_elements, shown_by, shown_elements, shown_text, span_elements, steps_shown, stop_of, stopped_end, text_of, word_elements}
-pub use Rattle.csq_draw.specs.Terminal.{each_text, in_width, irp_line_reported, pass_cell, row_text, rows_text, spaces}
+pub use Rattle.csq_draw.specs.Irps.{irp_after, irp_at, irp_named, irps_after, new_irp, with_irp}
+pub use Rattle.csq_draw.specs.Pictures.{EndShown, Shown, above_elements, arrow_elements, bars_elements, behind_elements, call_elements, close_of, closed_elements, closing_elements, column_elements, each, elements_of, end_of, fresh_irps, irps_of, last_elements, mark_element, number_element, open_elements, owners_elements, picture_of, refused_elements, row_after, rows_elements, seen, shade_elements, shown_by, shown_elements, span_elements, steps_shown, stop_of, stopped_end, word_elements}
 pub use Rattle.csq_draw.specs.declared.irps.IrpNow.{IrpNow}
 pub use Rattle.csq_draw.specs.declared.irps.Spot.{Spot}
-pub use Rattle.csq_draw.specs.declared.irps.Seen.{Seen}
+pub use Rattle.csq_draw.specs.declared.irps.LastSeen.{LastSeen}
 pub use Rattle.csq_draw.specs.declared.owners.Owner.{Owner}
 pub use Rattle.csq_draw.specs.declared.rows.Row.{Row}
-pub use Rattle.csq_draw.specs.declared.view.View.{View}
 pub use Rattle.csq_explain.proofs.Following.{inside_is, length-passes}
 pub use Rattle.csq_explain.proofs.Tables.{count-more, get-table, length-table, position-None, set-table, table-replicate, table-same}
 pub use Rattle.csq_explain.specs.Passes.{all_passes, new_pass_now, pass_after, pass_now}
-pub use Rattle.csq_explain.specs.Reasons.{reason_of, reason_text}
-pub use Rattle.csq_replay.proofs.Closings.{grew_more}
+pub use Rattle.csq_explain.specs.Reasons.{reason_of}
 pub use Rattle.csq_replay.specs.Lines.{GrewBy}
 pub use Rattle.csq_replay.specs.Schedule.{Numbered, run_of}
 pub use Rattle.irp_core.proofs.Names.{named, other_irp, same_id-eq, same_id-refl, same_irp-eq, same_irp-refl, same_pass-eq, same_pass-refl}

@@ -74,7 +74,7 @@ lane_of None = 0
 abbrev claimed : IrpLife → Having → PassId → ℕ → ℕ → Option Owner
 claimed i having p row lane = Some (record { name = i; pass = p; having = having; row = row; lane = lane })
 
--- whoever has an IRP after a step had it before, or is the pass of the step and has it in this lane
+-- a pass that has an IRP after a step had it before, or is the pass of the step and has it in this lane
 module _ (found : ℕ) (p : PassId) (row lane : ℕ) (before : Option Owner) (a : Owner) where
   abbrev Came : Type 0
   Came = (before ≡ Some a) ⊎ ((a.pass ≡ p) × (a.lane ≡ lane))

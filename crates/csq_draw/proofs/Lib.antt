@@ -1,8 +1,6 @@
 pub mod Imports
 pub mod Reading
-pub mod Captioning
 pub mod Growing
-pub mod Writing
 pub mod Known
 pub mod RowElements
 pub mod PastLaws

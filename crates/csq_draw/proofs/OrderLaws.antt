@@ -1,30 +1,22 @@
--- An order that may break the protocol has one picture; its marks, and those of what a window shows.
+-- The marks of an order that breaks the protocol, and those of what a window shows.
 use Rattle.std.proofs.Common.{◌≡◌, ℕ, ◌+◌, Bool, true, false, Option, Some, None, filter, List, [], ◌∷◌, ◌++◌, length, replicate, refl, ap, sym, subst, ◌∙◌}
-use Rattle.irp_core.specs.declared.refusals.StepRefused.{StepRefused}
-use Rattle.irp_core.specs.declared.step.Step.{Step}
-use Rattle.irp_core.proofs.Growing.{run_none}
-use Rattle.csq_replay.specs.declared.schedule.outcome.Outcome.{Outcome}
-use Rattle.csq_replay.specs.declared.schedule.outcome.Outcome.TheVariants.{Skipped, Accepted, Stopped}
-use Rattle.csq_replay.specs.Outcomes.{ComesTo}
-use Rattle.csq_replay.proofs.Answering.{one_input_answer}
-use Rattle.csq_replay.proofs.OneAnswer.{one_outcome}
 use Rattle.csq_explain.specs.declared.harms.HarmAt.{HarmAt}
 use Rattle.csq_explain.specs.declared.reasons.Reason.{Reason}
 use Rattle.std.proofs.lemmas.List.{length-replicate}
 use Rattle.csq_explain.specs.declared.passes.PassNow.{PassNow}
 use Rattle.csq_draw.specs.Lives.{past_lives}
 use Rattle.csq_draw.specs.declared.view.Window.{Window}
-use Rattle.csq_draw.specs.declared.wrong_drawing.Refusal.{Refusal}
+use Rattle.csq_draw.specs.declared.refusals.FirstRefusal.{FirstRefusal}
 use Rattle.csq_draw.specs.Endings.{rest_of}
-use Rattle.csq_draw.specs.Laws.{HasOnePicture, EachShownStepHasOneMark, EachStepOfAnOrderHasOneMark, added, mark_in, mark_of, mark_on, marks, marks_from, marks_in, order_marks, picked, window_marks, window_shown}
+use Rattle.csq_draw.specs.Laws.{EachShownStepHasOneMark, EachStepOfAnOrderHasOneMark, added, mark_in, mark_of, mark_on, marks, marks_from, marks_in, order_marks, picked, window_marks, window_shown}
 use Rattle.csq_draw.specs.Pictures.{broken_end, harm_elements, harms_elements}
 use Rattle.csq_draw.specs.Rows.{rows_of}
 use Rattle.csq_draw.specs.Windows.{cut, places, shows}
-use Rattle.csq_draw.specs.WrongDrawings.{DrawsOrderClosing, DrawsOrderEnd, DrawsOrderLine, IsOrderDrawing, WrongDrawn, after_accepted, after_stopped, new_wrong_drawn, order_after, order_rows, order_shown, order_text, reason_at, step_behind}
-use Rattle.csq_draw.proofs.Imports.{IsRun, Made, View, run_of, IrpNow, Numbered, Row, EndShown, Shown, Size, all_passes, close_of, fresh_irps, irps_after, irps_of, mark_element, new_irp, rows_elements, shown_elements, stop_of, stopped_end}
+use Rattle.csq_draw.specs.Drawings.{Drawn, drawn_rows, order_shown}
+use Rattle.csq_draw.proofs.Imports.{IrpNow, Numbered, Row, EndShown, Shown, Size, all_passes, close_of, fresh_irps, irps_after, irps_of, mark_element, new_irp, rows_elements, shown_elements, stop_of, stopped_end}
 use Rattle.csq_draw.proofs.Known.{length-after}
 use Rattle.csq_draw.proofs.Picking.{none_closed, none_picked, picked-append, then_none}
-use Rattle.csq_draw.proofs.PictureLaws.{all_picked, one_closing, marks_picked, of_rows, quiet}
+use Rattle.csq_draw.proofs.PictureLaws.{all_picked, marks_picked, of_rows, quiet}
 use Rattle.csq_draw.proofs.RowElements.{rows-append}
 
 -- of what is shown, before elements that are no marks
@@ -37,7 +29,7 @@ no_harm_mark : (rows : ℕ) (harms : List HarmAt) → picked mark_in (harms_elem
 no_harm_mark rows [] = refl
 no_harm_mark rows (h ∷ harms) = none_picked mark_in (harm_elements rows) (λ k x. refl) 0 (h ∷ harms)
 
-module _ (size : Size) (d : WrongDrawn) (refusal : Refusal) where
+module _ (size : Size) (d : Drawn) (refusal : FirstRefusal) where
   abbrev s : Shown
   s = order_shown size d refusal
 
@@ -45,17 +37,17 @@ module _ (size : Size) (d : WrongDrawn) (refusal : Refusal) where
   fresh = replicate size.irps new_irp
 
   fresh_are : fresh_irps s.irps ≡ fresh
-  fresh_are = ap (λ n. replicate n new_irp) (length-after fresh (order_rows size d) ∙ length-replicate size.irps new_irp)
+  fresh_are = ap (λ n. replicate n new_irp) (length-after fresh (drawn_rows size d) ∙ length-replicate size.irps new_irp)
 
   order_picked : picked mark_in (rows_elements s.passes s.irps (fresh_irps s.irps) s.rows) ≡ order_marks size d s
   order_picked =
-      let kept = rows_elements s.passes s.irps fresh (rows_of size d.drawn.steps) in
-      let behind = rows_elements s.passes s.irps (irps_after fresh (rows_of size d.drawn.steps)) d.behind in
+      let kept = rows_elements s.passes s.irps fresh (rows_of size d.kept) in
+      let later = rows_elements s.passes s.irps (irps_after fresh (rows_of size d.kept)) d.later in
       ap (λ xs. picked mark_in (rows_elements s.passes s.irps xs s.rows)) fresh_are
-      ∙ ap (λ es. picked mark_in es) (rows-append s.passes s.irps fresh (rows_of size d.drawn.steps) d.behind)
-      ∙ picked-append mark_in kept behind
-      ∙ ap (λ t. t ++ picked mark_in behind) (all_picked (λ m. m ∷ []) (λ n. []) (λ s. []) (λ a. []) (λ ps irps row spot. mark_in (mark_element ps irps row)) (λ ps irps row spot. ap (λ t. t ++ mark_in (mark_element ps irps row)) (quiet ps row spot)) size s.passes s.irps d.drawn.steps)
-      ∙ ap (λ t. added (mark_of size s.passes s.irps) d.drawn.steps ++ t) (marks_picked s.passes s.irps (irps_after fresh (rows_of size d.drawn.steps)) d.behind)
+      ∙ ap (λ es. picked mark_in es) (rows-append s.passes s.irps fresh (rows_of size d.kept) d.later)
+      ∙ picked-append mark_in kept later
+      ∙ ap (λ t. t ++ picked mark_in later) (all_picked (λ m. m ∷ []) (λ n. []) (λ s. []) (λ a. []) (λ ps irps row spot. mark_in (mark_element ps irps row)) (λ ps irps row spot. ap (λ t. t ++ mark_in (mark_element ps irps row)) (quiet ps row spot)) size s.passes s.irps d.kept)
+      ∙ ap (λ t. added (mark_of size s.passes s.irps) d.kept ++ t) (marks_picked s.passes s.irps (irps_after fresh (rows_of size d.kept)) d.later)
 
   pub each_order_mark : EachStepOfAnOrderHasOneMark size d refusal
   each_order_mark = record {
@@ -88,42 +80,3 @@ module _ (size : Size) (W : List Numbered) (w : Window) where
     closed = λ reported at_rest.
         marks_shown shown (close_of size W reported at_rest) _ window_picked (none_closed mark_in (λ n b. refl) (irps_of size W) (past_lives (irps_of size W) (rows_of size W)) reported (rest_of (all_passes size W) at_rest) (length shown.rows));
   }
-
--- what the lines of an order led to: its execution is a run, and as long as the protocol is kept it is what is drawn
-abbrev IsOwnRun : Size → WrongDrawn → Type 0
-IsOwnRun size d = IsRun size (run_of d.own) × (d.refusal ≡ None → d.own ≡ d.drawn.steps)
-
-abbrev IsOwnRunAfter : Size → Option WrongDrawn → Type 0
-IsOwnRunAfter size (Some d) = IsOwnRun size d
-IsOwnRunAfter size None = Unit {0}
-
-module _ (size : Size) (view : View) where
-  one_line : (d : WrongDrawn) (n : ℕ) (line t u : List ℕ) (m k : Option WrongDrawn) → IsOwnRun size d → DrawsOrderLine size view d n line t m → DrawsOrderLine size view d n line u k → (t ≡ u) × (m ≡ k)
-  one_line d n line t u m k r (o, comes, e, f) (p, comes', g, h) =
-      let same = one_outcome size (run_of d.own) line r.0 o p comes comes' in
-      (e ∙ ap (order_text size view d n) same ∙ sym g, f ∙ ap (order_after size d n line) same ∙ sym h)
-
-  accepted : (d : WrongDrawn) (n : ℕ) (m : Made) (refusal : Option Refusal) → d.refusal ≡ refusal → IsOwnRun size d → IsRun size (m ∷ run_of d.own) → IsOwnRun size (after_accepted d n m refusal)
-  accepted d n m None none r is = (is, λ h. ap (λ W. record { line = n; step = m } ∷ W) (r.1 none))
-  accepted d n m (Some refusal) some r is = (is, λ h. absurd (cc h))
-
-  stopped : (d : WrongDrawn) (n : ℕ) (reason : Reason) (behind : Option (Step × StepRefused)) → IsOwnRun size d → IsOwnRunAfter size (after_stopped d n reason behind)
-  stopped d n reason (Some x) r = (r.0, λ h. absurd (cc h))
-  stopped d n reason None r = tt
-
-  after_line : (d : WrongDrawn) (n : ℕ) (line : List ℕ) (o : Outcome) → IsOwnRun size d → ComesTo size (run_of d.own) line o → IsOwnRunAfter size (order_after size d n line o)
-  after_line d n line Skipped r is = r
-  after_line d n line (Accepted m) r is = accepted d n m d.refusal refl r is.1
-  after_line d n line (Stopped stop) r is = stopped d n (reason_at size d stop) (step_behind stop) r
-
-  on_line : (d e : WrongDrawn) (n : ℕ) (line text : List ℕ) → IsOwnRun size d → DrawsOrderLine size view d n line text (Some e) → IsOwnRun size e
-  on_line d e n line text r (o, comes, reported, same) = subst (IsOwnRunAfter size) (sym same) (after_line d n line o r comes)
-
-  one_end : (d : WrongDrawn) (refusal : Option Refusal) → d.refusal ≡ refusal → IsOwnRun size d → (t u : List ℕ) → DrawsOrderEnd size view d refusal t → DrawsOrderEnd size view d refusal u → t ≡ u
-  one_end d None none r t u e f = one_closing size view d.drawn (subst (λ W. IsRun size (run_of W)) (r.1 none) r.0) t u e f
-  one_end d (Some refusal) some r t u e f = e ∙ sym f
-
-pub one_order_picture : (size : Size) (view : View) (input : List ℕ) → HasOnePicture (IsOrderDrawing size view) input
-one_order_picture size view input t u e f is other =
-    one_input_answer (DrawsOrderLine size view) (DrawsOrderClosing size view) (IsOwnRun size) (one_line size view) (on_line size view)
-    (λ d x y r closed closed'. one_end size view d d.refusal refl r x y closed closed') new_wrong_drawn (run_none size, λ h. refl) input t u e f is other

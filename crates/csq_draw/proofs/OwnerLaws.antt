@@ -37,7 +37,7 @@ Fits i (Owed p) o = (row : ℕ) × (lane : ℕ) × (o ≡ drawn_as p Owes row la
 Fits i (Held p status) o = (row : ℕ) × (lane : ℕ) × (o ≡ drawn_as p Holds row lane i)
 Fits i _ o = o ≡ None
 
--- IRP n of so many stands in its present life as it is drawn
+-- IRP n of this number stands in its present life as it is drawn
 abbrev IsDrawn : Size → ℕ → IrpId → List Made → Type 0
 IsDrawn size irps n E = (s : Standing) × Stands E (present size.first E n) s × Fits (present size.first E n) s (owner irps E n)
 

@@ -3,7 +3,7 @@ use Rattle.std.proofs.Common.{◌≡◌, ℕ, ◌+◌, List, [], ◌∷◌, ◌+
 use Rattle.csq_replay.specs.declared.schedule.closing.IrpLine.{IrpLine}
 use Rattle.csq_draw.proofs.Imports.{IrpNow, closed_elements, closing_elements, each}
 use Rattle.csq_draw.specs.declared.element.Element.{Element, TheVariants.{Below}}
-use Rattle.csq_draw.specs.declared.ending.{Below.{Below as BelowRows, TheVariants.{AtRest}}, Rest.{Rest}}
+use Rattle.csq_draw.specs.declared.ending.{Below.{Below as BelowRows, TheVariants.{AtRest}}, RestState.{RestState}}
 use Rattle.csq_draw.specs.declared.lives.PastLife.{PastLife}
 use Rattle.csq_draw.specs.Pictures.{past_elements}
 use Rattle.csq_draw.specs.Laws.{picked}
@@ -39,7 +39,7 @@ module _ {A : Type 0} (pick : Element → List A) where
 
   -- nothing of what is reported in the end, where nothing is of what stands below the rows
   module _ (none : (rows : ℕ) (b : BelowRows) → pick (Below rows b) ≡ []) where
-    pub none_closed : (irps : List IrpNow) (lives : List PastLife) (reported : List IrpLine) (rest : Rest) (rows : ℕ) → picked pick (closed_elements irps lives reported rest rows) ≡ []
+    pub none_closed : (irps : List IrpNow) (lives : List PastLife) (reported : List IrpLine) (rest : RestState) (rows : ℕ) → picked pick (closed_elements irps lives reported rest rows) ≡ []
     none_closed irps lives reported rest rows =
         let alone : (b : BelowRows) → picked pick (Below rows b ∷ []) ≡ [] = λ b. ap (λ t. t ++ []) (none rows b) in
         let closing = closing_elements irps rows (length lives) in

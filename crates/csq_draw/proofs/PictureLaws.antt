@@ -3,16 +3,11 @@ use Rattle.std.proofs.Common.{◌≡◌, ◌||◌, inl, inr, ℕ, ◌+◌, ◌<�
 use Rattle.std.specs.List.{position, list_any}
 use Rattle.std.specs.Prelude.{is_some}
 use Rattle.std.proofs.lemmas.List.Quantifiers.{position-Some}
-use Rattle.csq_draw.proofs.Imports.{option_map, PassId, Made, same_pass, by, Size, IsRun, same_pass-eq, Numbered, run_of, Owner, Row, View, owners, new_pass_now, pass_after, pass_now, lock_of, columns, column_of, each, column_elements, number_element, mark_element, call_elements, shade_elements, span_elements, bars_elements, arrow_elements, behind_elements, row_after, rows_elements, new_irp, last_elements, word_elements, fresh_irps, irps_of, irp_named, with_irp, IrpNow, Seen, Spot, open_elements, owners_elements, closed_elements, refused_elements, Shown, above_elements, close_of, found_at, shown_elements, steps_shown, text_of, Drawn, new_drawn, drawn_text, drawn_after, DrawsLine, DrawsClosing, all_passes, reason_of, get-table, position-None, count-more, length-passes, inside_is}
+use Rattle.csq_draw.proofs.Imports.{option_map, PassId, Made, same_pass, by, Size, IsRun, same_pass-eq, Numbered, run_of, Owner, Row, owners, new_pass_now, pass_after, pass_now, lock_of, columns, column_of, each, column_elements, number_element, mark_element, call_elements, shade_elements, span_elements, bars_elements, arrow_elements, behind_elements, row_after, rows_elements, new_irp, last_elements, word_elements, fresh_irps, irps_of, irp_named, with_irp, IrpNow, LastSeen, Spot, open_elements, owners_elements, closed_elements, refused_elements, Shown, above_elements, close_of, found_at, shown_elements, steps_shown, all_passes, reason_of, get-table, position-None, count-more, length-passes, inside_is}
 use Rattle.irp_core.specs.Inside.{inside, inside_after, has_lock}
 use Rattle.irp_core.specs.Lock.{HasLock, needs_lock}
-use Rattle.irp_core.proofs.Growing.{run_none, run_less, run_parted, HasLock-has_lock, has_lock-HasLock}
+use Rattle.irp_core.proofs.Growing.{run_less, run_parted, HasLock-has_lock, has_lock-HasLock}
 use Rattle.irp_core.proofs.Next.{lock_one}
-use Rattle.csq_replay.specs.declared.schedule.outcome.Outcome.{Outcome}
-use Rattle.csq_replay.specs.declared.schedule.outcome.Outcome.TheVariants.{Skipped, Accepted, Stopped}
-use Rattle.csq_replay.specs.Outcomes.{ComesTo}
-use Rattle.csq_replay.proofs.Answering.{one_input_answer}
-use Rattle.csq_replay.proofs.OneAnswer.{one_close, one_outcome}
 use Rattle.std.proofs.lemmas.List.{length-replicate}
 use Rattle.csq_draw.proofs.Known.{length-after}
 use Rattle.csq_draw.proofs.Picking.{none_closed, none_picked, none_then, picked-append, then_none}
@@ -30,39 +25,9 @@ use Rattle.csq_draw.specs.declared.element.Element.{Element}
 use Rattle.csq_draw.specs.Arrows.{found_in}
 use Rattle.csq_draw.specs.Marks.{takes_lock, lets_go}
 use Rattle.csq_draw.specs.Endings.{rest_of}
-use Rattle.csq_draw.specs.Pictures.{IsDrawing, place_named, words_until}
+use Rattle.csq_draw.specs.Pictures.{place_named, words_until}
 use Rattle.csq_draw.specs.Rows.{row_of, rows_of}
-use Rattle.csq_draw.specs.Laws.{HasOnePicture, marks, picked, added, AddsStepByStep, pick_of, mark_in, number_in, arrow_in, arrow_to, shade_by, EachStepHasOneMark, EachStepShowsItsWords, EachLineHasItsNumber, EachShadeIsOfTheLock, EachPassHasItsColumn, HasItAt, TheShadedPassHasTheLock}
-
-module _ (size : Size) (view : View) where
-  -- what is drawn of a line is one
-  one_drawn : (d : Drawn) (n : ℕ) (line t u : List ℕ) (m k : Option Drawn) → IsRun size (run_of d.steps) → DrawsLine size view d n line t m → DrawsLine size view d n line u k → (t ≡ u) × (m ≡ k)
-  one_drawn d n line t u m k r (o, comes, e, f) (p, comes', g, h) =
-      let same = one_outcome size (run_of d.steps) line r o p comes comes' in
-      (e ∙ ap (drawn_text size view d n) same ∙ sym g, f ∙ ap (drawn_after d n line) same ∙ sym h)
-
-  abbrev steps_in : Option Drawn → List Numbered
-  steps_in (Some d) = d.steps
-  steps_in None = []
-
-  run_after : (d e : Drawn) (n : ℕ) (line : List ℕ) (o : Outcome) → IsRun size (run_of d.steps) → ComesTo size (run_of d.steps) line o → Some e ≡ drawn_after d n line o → IsRun size (run_of e.steps)
-  run_after d e n line Skipped r is same = let P : List Numbered → Type 0 = λ x. IsRun size (run_of x) in subst P (ap steps_in (sym same)) r
-  run_after d e n line (Accepted m) r is same = let P : List Numbered → Type 0 = λ x. IsRun size (run_of x) in subst P (ap steps_in (sym same)) is.1
-  run_after d e n line (Stopped stop) r is same = absurd (cc same)
-
-  -- the steps that a line leads to make a run
-  drawn_on : (d e : Drawn) (n : ℕ) (line text : List ℕ) → IsRun size (run_of d.steps) → DrawsLine size view d n line text (Some e) → IsRun size (run_of e.steps)
-  drawn_on d e n line text r (o, comes, reported, same) = run_after d e n line o r comes same
-
-  pub one_closing : (d : Drawn) → IsRun size (run_of d.steps) → (t u : List ℕ) → DrawsClosing size view d t → DrawsClosing size view d u → t ≡ u
-  one_closing d r t u (reported, rest, closes, e) (other, otherwise, closes', f) =
-      let same = one_close size (run_of d.steps) r reported other rest otherwise closes closes' in
-      e ∙ ap (λ x. text_of size view d (close_of size d.steps x rest)) same.0 ∙ ap (λ x. text_of size view d (close_of size d.steps other x)) same.1 ∙ sym f
-
-pub one_picture : (size : Size) (view : View) (input : List ℕ) → HasOnePicture (IsDrawing size view) input
-one_picture size view input t u e f is other =
-    one_input_answer (DrawsLine size view) (DrawsClosing size view) (λ (d : Drawn). IsRun size (run_of d.steps)) (one_drawn size view) (drawn_on size view)
-    (λ d x y r closed closed'. one_closing size view d r x y closed closed') new_drawn (run_none size) input t u e f is other
+use Rattle.csq_draw.specs.Laws.{marks, picked, added, AddsStepByStep, pick_of, mark_in, number_in, arrow_in, arrow_to, shade_by, EachStepHasOneMark, EachStepShowsItsWords, EachLineHasItsNumber, EachShadeIsOfTheLock, EachPassHasItsColumn, HasItAt, TheShadedPassHasTheLock}
 
 -- what is picked out of the shade of a row, if a pass has the lock there
 abbrev shades_with : {A : Type 0} → (Shade → List A) → List PassNow → Row → Option PassId → List A
@@ -93,7 +58,7 @@ module _ {A : Type 0} (mark : Mark → List A) (number : Number → List A) (sha
   no_name : (passes : List PassNow) (irps : List IrpNow) (n : ℕ) (now : IrpNow) → picked pick (word_elements passes irps n now) ≡ []
   no_name passes irps n now = grind arith
 
-  pub no_bars : (columns place to : ℕ) (to_the_end : Bool) (last : Option Seen) → picked pick (bars_elements columns place to to_the_end last) ≡ []
+  pub no_bars : (columns place to : ℕ) (to_the_end : Bool) (last : Option LastSeen) → picked pick (bars_elements columns place to to_the_end last) ≡ []
   no_bars columns place to to_the_end last = grind arith
 
   no_span : (passes : List PassNow) (to : ℕ) (end : LineEnd) (owner : Option Owner) → picked pick (span_elements passes to end owner) ≡ []
@@ -146,7 +111,7 @@ module _ {A : Type 0} (mark : Mark → List A) (number : Number → List A) (sha
   abbrev mark_in_row : List PassNow → List IrpNow → Row → List A
   mark_in_row passes irps row = mark (record { row = row.row; column = column_of passes row.step.made.pass; columns = columns passes; place = place_named irps row.step.made.kind; step = row.step; legality = row.legality; words = row.words })
 
-  -- of a row, whoever has the lock there, and whoever wrote what its step found
+  -- of a row, with the pass that has the lock there, and the step that wrote what its step found
   abbrev pub row_with : List PassNow → List IrpNow → Row → Option PassId → Option Spot → List A
   row_with passes irps row lock spot = number (record { row = row.row; line = row.line }) ++ ((shades_with shade passes row lock ++ arrows_with arrow passes row spot) ++ (mark_in_row passes irps row ++ []))
 

@@ -1,10 +1,8 @@
 -- A drawing shows the run that it was noted of.
 use Rattle.std.proofs.Common.{◌≡◌, ℕ, suc, ◌+◌, ◌<◌, Bool, true, false, cond, List, [], ◌∷◌, ◌++◌, length, get_or, set, replicate, Option, Some, None, refl, ap, sym, ◌∙◌, subst, length-append, add-one, arith}
-use Rattle.csq_draw.proofs.Imports.{option_map_or, IrpId, PassId, Kind, Made, number, same_id, name_of, IrpLife, Size, OfIrp, same_id-refl, same_id-eq, Numbered, run_of, GrewBy, View, all_passes, length-table, table-same, table-replicate, get-table, set-table, CaptionText, Drawn, DrawingStandsAfter, EndShown, Shown, seen, drawing_shown, shown_text, steps_shown, text_of, IrpNow, irps_after, irps_of, new_irp, Owner, Row, is_of_irp, owner, owner_after, owner_named, ended_by, owners, lock_of, lock_at, owner_in, with_owner, Shows, NotesStep}
+use Rattle.csq_draw.proofs.Imports.{option_map_or, IrpId, PassId, Kind, Made, number, same_id, name_of, IrpLife, Size, OfIrp, same_id-refl, same_id-eq, Numbered, run_of, all_passes, length-table, table-same, table-replicate, get-table, set-table, Shown, IrpNow, Owner, Row, is_of_irp, owner, owner_after, owner_named, ended_by, owners, lock_of, lock_at, owner_in, with_owner, Shows, NotesStep}
 use Rattle.irp_core.specs.MachineState.{MachineState, Agrees, size_of}
 use Rattle.csq_explain.specs.declared.passes.PassNow.{PassNow}
-use Rattle.csq_draw.specs.Captions.{caption_of}
-use Rattle.csq_draw.specs.declared.drawing.Drawing.{Drawing}
 use Rattle.csq_draw.specs.declared.marks.Legality.TheVariants.{Legal}
 use Rattle.csq_explain.specs.declared.sentences.StepInCall.{StepInCall}
 use Rattle.csq_explain.specs.Sentences.{in_call}
@@ -128,11 +126,6 @@ module _ (size : Size) (rows : List Row) (os : List (Option Owner)) (w : Numbere
 pub owners_count : (size : Size) (rows : List Row) (os : List (Option Owner)) (W : List Numbered) → Shows size rows os W → length os ≡ size.irps
 owners_count size rows os W h = ap length h.shown_owners ∙ length-owners size.irps (run_of W)
 
--- what is known of so many IRPs is what the steps say
-pub irps_shown : (size : Size) (rows : List Row) (os : List (Option Owner)) (W : List Numbered) → Shows size rows os W → (irps : List IrpNow) → irps ≡ irps_after (replicate (length os) new_irp) rows → irps ≡ irps_of size W
-irps_shown size rows os W h irps is =
-    is ∙ ap (λ n. irps_after (replicate n new_irp) rows) (owners_count size rows os W h) ∙ ap (irps_after (replicate size.irps new_irp)) h.shown_rows
-
 -- what is shown of these
 abbrev pub showing : Option ℕ → List PassNow → List IrpNow → List Row → List (Option Owner) → Shown
 showing refused passes irps rows owners = record { passes = passes; irps = irps; rows = rows; owners = owners; refused = refused }
@@ -140,18 +133,3 @@ showing refused passes irps rows owners = record { passes = passes; irps = irps;
 pub same_shown : (refused : Option ℕ) (ps qs : List PassNow) (xs ys : List IrpNow) (rows lines : List Row) (os vs : List (Option Owner)) → ps ≡ qs → xs ≡ ys → rows ≡ lines → os ≡ vs → showing refused ps xs rows os ≡ showing refused qs ys lines vs
 same_shown refused ps qs xs ys rows lines os vs a b c d =
     ap (λ p. showing refused p xs rows os) a ∙ ap (λ x. showing refused qs x rows os) b ∙ ap (λ r. showing refused qs ys r os) c ∙ ap (showing refused qs ys lines) d
-
--- a text of this view grew by what is shown below a caption
-module _ (view : View) (caption wanted : CaptionText) (s t : Shown) (old new : List ℕ) where
-  pub text_shown : (e : EndShown) → caption ≡ wanted → s ≡ t → GrewBy old new (shown_text view.format caption (seen view.window s) e) → GrewBy old new (shown_text view.format wanted (seen view.window t) e)
-  text_shown e same are grew = grew ∙ ap (λ x. old ++ shown_text view.format x (seen view.window s) e) same ∙ ap (λ x. old ++ shown_text view.format wanted (seen view.window x) e) are
-
--- what was drawn of a drawing's steps, of which so much is known, is the text of what the lines led to
-module _ {A : Type 0} (drawing : Drawing A) (irps : List IrpNow) (size : Size) (d : Drawn) (stands : DrawingStandsAfter drawing size d) (known : irps ≡ irps_after (replicate (length drawing.owners.items) new_irp) drawing.rows.items) (old new : List ℕ) where
-  irps_are : irps ≡ irps_of size d.steps
-  irps_are = irps_shown size drawing.rows.items drawing.owners.items d.steps stands.shows irps known
-
-  pub steps_drawn : (e : EndShown) → GrewBy old new (shown_text drawing.view.format (caption_of drawing.caption) (seen drawing.view.window (drawing_shown drawing irps)) e) → GrewBy old new (text_of size drawing.view d e)
-  steps_drawn e =
-      text_shown drawing.view _ _ (drawing_shown drawing irps) (steps_shown size d.steps) old new e stands.captioned
-      (same_shown None _ _ _ _ _ _ _ _ stands.follows.passes irps_are stands.shows.shown_rows stands.shows.shown_owners)

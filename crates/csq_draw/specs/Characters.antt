@@ -21,7 +21,7 @@ abbrev pub after_mark : List ℕ → List ℕ
 after_mark [] = []
 after_mark (b ∷ bytes) = bytes
 
--- the characters of the longest front that is UTF-8, a question mark for the byte after it, and so on, at most so many times
+-- the characters of the longest front that is UTF-8, a question mark for the byte after it, and so on, at most this number of times
 unfoldable pub characters_within : ℕ → List ℕ → List ℕ
 characters_within zero bytes = []
 characters_within (suc k) bytes = let n = utf8_valid_len bytes in

@@ -1,36 +1,12 @@
--- The text of each element of a picture.
-use Rattle.std.specs.Prelude.{ℕ, List, [], ◌∷◌, ◌++◌, codes}
+-- How a canvas changes with the elements that are drawn on it.
+use Rattle.std.specs.Prelude.{◌≡◌, List, [], ◌∷◌}
 use Rattle.csq_draw.specs.declared.element.Element.{Element}
-use Rattle.csq_draw.specs.declared.element.Element.TheVariants as element
-use Rattle.csq_draw.specs.Circles.{word_columns_text}
-use Rattle.csq_draw.specs.Headings.{lines_text, column_text}
-use Rattle.csq_draw.specs.Marks.{number_text, shade_text, mark_text}
-use Rattle.csq_draw.specs.Spans.{span_text}
-use Rattle.csq_draw.specs.Arrows.{arrow_text}
-use Rattle.csq_draw.specs.Bars.{bars_text}
-use Rattle.csq_draw.specs.CallTexts.{call_line_text}
-use Rattle.csq_draw.specs.Endings.{below_text}
-use Rattle.csq_draw.specs.Layout.{top}
 
--- the text of an element
-unfoldable pub element_text : Element → List ℕ
-element_text element.Lines = lines_text
-element_text (element.WordColumns x) = word_columns_text x
-element_text (element.Column x) = column_text x
-element_text (element.Number x) = number_text x
-element_text (element.Shade x) = shade_text x
-element_text (element.Span x) = span_text x
-element_text (element.Bars x) = bars_text x
-element_text (element.Arrow x) = arrow_text x
-element_text (element.Mark x) = mark_text x
-element_text (element.Call x) = call_line_text x
-element_text (element.Below rows x) = below_text (top rows) x
+-- what a canvas shows that showed this, after these elements, one after the other
+abbrev pub with_all : {I : Type 0} → (I → Element → I) → I → List Element → I
+with_all added image [] = image
+with_all added image (e ∷ es) = with_all added (added image e) es
 
--- each on a line of its own
-abbrev pub elements_text : List Element → List ℕ
-elements_text [] = []
-elements_text (e ∷ es) = (element_text e ++ codes "\n") ++ elements_text es
-
--- a picture of these elements, below its head
-abbrev pub picture : List Element → List ℕ
-picture es = elements_text es ++ codes "</svg>\n"
+-- a canvas gained these elements
+abbrev pub Drew : {I : Type 0} → (I → Element → I) → I → I → List Element → Type 0
+Drew added old new es = new ≡ with_all added old es

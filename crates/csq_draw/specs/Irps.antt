@@ -5,7 +5,7 @@ use Rattle.irp_core.specs.declared.ids.IrpId.{IrpId}
 use Rattle.irp_core.specs.declared.inside.Inside.{Inside, TheVariants.{Cancelling}}
 use Rattle.irp_core.specs.declared.step.Kind.{Kind, TheVariants.{Arm, Disarm, Flag, Take, Out, Done, Renew, Rearm}}
 use Rattle.irp_core.specs.Steps.{number, name_of}
-use Rattle.csq_draw.specs.declared.irps.{Spot.{Spot}, Claim.{Claim}, Seen.{Seen}, IrpNow.{IrpNow}}
+use Rattle.csq_draw.specs.declared.irps.{Spot.{Spot}, Claim.{Claim}, LastSeen.{LastSeen}, IrpNow.{IrpNow}}
 use Rattle.csq_draw.specs.declared.rows.Row.{Row}
 use Rattle.csq_explain.specs.declared.word_values.WordValues.{WordValues}
 
@@ -13,7 +13,7 @@ use Rattle.csq_explain.specs.declared.word_values.WordValues.{WordValues}
 abbrev pub spot_of : Row → Spot
 spot_of row = record { row = row.row; line = row.line; pass = row.step.made.pass }
 
--- who set the Cancel flag, after this kind of step at this spot: whoever found it clear, until the next life
+-- who set the Cancel flag, after this kind of step at this spot: the pass that found it clear, until the next life
 abbrev pub flag_after : Kind → ℕ → Spot → Option Spot → Option Spot
 flag_after (Flag i) found spot before = if found == 0 then Some spot else before
 flag_after (Renew i) found spot before = None
@@ -45,11 +45,11 @@ done_after (Renew i) spot before = None
 done_after _ spot before = before
 
 -- the last step of an IRP, with the words after it
-abbrev pub last_by : ℕ → Option WordValues → Option Seen → Option Seen
+abbrev pub last_by : ℕ → Option WordValues → Option LastSeen → Option LastSeen
 last_by row (Some words) before = Some (record { row = row; words = words })
 last_by row None before = before
 
-abbrev pub last_after : Row → Option Seen → Option Seen
+abbrev pub last_after : Row → Option LastSeen → Option LastSeen
 last_after row before = last_by row.row row.words before
 
 -- an IRP that no step has named
@@ -85,10 +85,6 @@ irps_after irps (row ∷ rows) = irps_after (with_irp irps row) rows
 -- how many of these a step names: each has a column for each of its words
 abbrev pub irp_columns : List IrpNow → ℕ
 irp_columns irps = count_by (λ (now : IrpNow). is_some now.last) irps
-
--- whether a step names more than one of these
-abbrev pub has_several : List IrpNow → Bool
-has_several irps = nat_lt 1 (irp_columns irps)
 
 -- the place of IRP n among those that a step names, from 0 on
 abbrev pub irp_column : List IrpNow → IrpId → ℕ

@@ -14,7 +14,7 @@ is_in_lane p lane None = false
 abbrev pub is_taken : List (Option Owner) → PassId → ℕ → Bool
 is_taken os p lane = list_any (is_in_lane p lane) os
 
--- of so many lanes from this one on the first that p has free, or the one behind them if it has none of them free
+-- of this number of lanes from this one on the first that p has free, or the one after them if it has none of them free
 abbrev pub first_free : List (Option Owner) → PassId → ℕ → ℕ → ℕ
 first_free os p zero lane = lane
 first_free os p (suc more) lane = if is_taken os p lane then first_free os p more (lane + 1) else lane

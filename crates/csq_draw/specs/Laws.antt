@@ -9,7 +9,6 @@ use Rattle.irp_core.specs.Lock.{HasLock, needs_lock}
 use Rattle.irp_core.specs.Owners.{owes, holds}
 use Rattle.irp_core.specs.Runs.{Size, IsRun}
 use Rattle.irp_core.specs.Steps.{by, name_of, same_pass}
-use Rattle.csq_replay.specs.declared.lines.answer.Ended.{Ended}
 use Rattle.csq_replay.specs.declared.schedule.closing.IrpLine.{IrpLine}
 use Rattle.csq_replay.specs.declared.schedule.outcome.Stop.{Stop}
 use Rattle.csq_replay.specs.Schedule.{Numbered, run_of}
@@ -21,7 +20,7 @@ use Rattle.csq_explain.specs.declared.passes.PassNow.{PassNow}
 use Rattle.csq_draw.specs.Lanes.{is_in_lane, is_taken}
 use Rattle.csq_draw.specs.declared.arrows.Arrow.{Arrow}
 use Rattle.csq_draw.specs.declared.bars.Bars.{Bars}
-use Rattle.csq_draw.specs.declared.irps.{IrpNow.{IrpNow}, Seen.{Seen}, Spot.{Spot}}
+use Rattle.csq_draw.specs.declared.irps.{IrpNow.{IrpNow}, LastSeen.{LastSeen}, Spot.{Spot}}
 use Rattle.csq_draw.specs.Marks.{takes_lock, lets_go}
 use Rattle.csq_draw.specs.Owners.{is_of_irp, owner, owners}
 use Rattle.csq_draw.specs.Passes.{columns, column_of, makes_step}
@@ -34,17 +33,13 @@ use Rattle.csq_draw.specs.Windows.{is_shown, shows}
 use Rattle.csq_draw.specs.Words.{words_named, changes_flag}
 use Rattle.csq_draw.specs.declared.element.Element.{Element}
 use Rattle.csq_draw.specs.declared.element.Element.TheVariants as element
-use Rattle.csq_draw.specs.declared.wrong_drawing.Refusal.{Refusal}
+use Rattle.csq_draw.specs.declared.refusals.FirstRefusal.{FirstRefusal}
 use Rattle.csq_draw.specs.Pictures.{EndShown, Shown, broken_end, close_of, irps_of, picture_of, place_named, seen, steps_shown, stop_of, stopped_end}
-use Rattle.csq_draw.specs.WrongDrawings.{WrongDrawn, order_shown}
+use Rattle.csq_draw.specs.Drawings.{Drawn, order_shown}
 use Rattle.csq_draw.specs.Irps.{irp_column}
 use Rattle.csq_explain.specs.WordValues.{words_of}
 use Rattle.csq_explain.specs.declared.harms.HarmAt.{HarmAt}
 use Rattle.csq_explain.specs.declared.reasons.Reason.{Reason}
-
--- two pictures of one input that are drawn so are the same, and so is how its handling ended
-abbrev pub HasOnePicture : (List ℕ → List ℕ → Ended → Type 0) → List ℕ → Type 0
-HasOnePicture IsDrawn input = (text other : List ℕ) (ended otherwise : Ended) → IsDrawn input text ended → IsDrawn input other otherwise → (text ≡ other) × (ended ≡ otherwise)
 
 -- what is picked out of these elements, in order
 abbrev pub picked : {A : Type 0} → (Element → List A) → List Element → List A
@@ -170,12 +165,12 @@ bars_in (element.Bars b) = b ∷ []
 bars_in _ = []
 
 -- the row of the newest of the steps W that names IRP n, and the words of that IRP's present life after that step, by the run
-abbrev pub last_seen : Size → IrpId → List Numbered → Option Seen
+abbrev pub last_seen : Size → IrpId → List Numbered → Option LastSeen
 last_seen size n [] = None
 last_seen size n (w ∷ W) = if is_of_irp n w.step.kind then Some (record { row = length W; words = words_of (run_of (w ∷ W)) (present size.first (run_of (w ∷ W)) n) }) else last_seen size n W
 
 -- the bars at a place of what was seen last of an IRP: from there to a row, or to the end
-abbrev pub bars_from : List PassNow → ℕ → ℕ → Bool → Option Seen → List Bars
+abbrev pub bars_from : List PassNow → ℕ → ℕ → Bool → Option LastSeen → List Bars
 bars_from passes place to to_the_end (Some seen) = record { columns = columns passes; place = place; from = seen.row; to = to; to_the_end = to_the_end; words = seen.words } ∷ []
 bars_from passes place to to_the_end None = []
 
@@ -247,10 +242,10 @@ abbrev pub marks_in : Shown → EndShown → List Mark
 marks_in s e = picked mark_in (picture_of s (length s.rows) e)
 
 -- of the picture of an order that broke the protocol so: each step up to the refusal has the mark that it has in any picture with these columns, and each row from the refused step on has its own
-abbrev pub order_marks : Size → WrongDrawn → Shown → List Mark
-order_marks size d s = added (mark_of size s.passes s.irps) d.drawn.steps ++ marks s.passes s.irps d.behind
+abbrev pub order_marks : Size → Drawn → Shown → List Mark
+order_marks size d s = added (mark_of size s.passes s.irps) d.kept ++ marks s.passes s.irps d.later
 
-pub record EachStepOfAnOrderHasOneMark (size : Size) (d : WrongDrawn) (refusal : Refusal) : Type 0 where
+pub record EachStepOfAnOrderHasOneMark (size : Size) (d : Drawn) (refusal : FirstRefusal) : Type 0 where
   pub stopped : (n : ℕ) (reason : Reason) → marks_in (order_shown size d refusal) (stopped_end n reason) ≡ order_marks size d (order_shown size d refusal)
   pub broken : (n : ℕ) (reason : Reason) (harms : List HarmAt) → marks_in (order_shown size d refusal) (broken_end n reason harms) ≡ order_marks size d (order_shown size d refusal)
 
@@ -287,7 +282,7 @@ HasItAt m E p = (IsTrue (needs_lock m.kind) × (m.pass ≡ p)) ⊎ ((needs_lock 
 abbrev pub TheShadedPassHasTheLock : Size → List Numbered → Type 0
 TheShadedPassHasTheLock size W = (w : Numbered) → IsRun size (run_of (w ∷ W)) → (p : PassId) → ((row_of size w W).lock ≡ Some p) ↔ HasItAt w.step (run_of W) p
 
--- after the run E, p is drawn as the owner of i, an IRP of so many in one of its lives, since some row and in some lane
+-- after the run E, p is drawn as the owner of i, an IRP of this number in one of its lives, since some row and in some lane
 abbrev pub IsDrawnAs : ℕ → List Made → IrpLife → PassId → Having → Type 0
 IsDrawnAs irps E i p having = (row : ℕ) × (lane : ℕ) × (owner irps E i.irp ≡ Some (record { name = i; pass = p; having = having; row = row; lane = lane }))
 
@@ -297,7 +292,7 @@ pub record EachDrawnOwnerOwesOrHolds (first : ℕ) (E : List Made) : Type 0 wher
   pub held : (irps : ℕ) (n : IrpId) (p : PassId) → (IsDrawnAs irps E (present first E n) p Holds) ↔ IsTrue (holds E p (present first E n))
   pub named : (irps : ℕ) (n : IrpId) (a : Owner) → owner irps E n ≡ Some a → a.name ≡ present first E n
 
--- of so many IRPs, two that one pass has after the steps E are in lanes of their own, or in the ninth
+-- of this number of IRPs, two that one pass has after the steps E are in lanes of their own, or in the ninth
 abbrev pub NoTwoLinesShareALane : ℕ → List Made → Type 0
 NoTwoLinesShareALane irps E = (n k : IrpId) (a b : Owner) → n.0 < irps → k.0 < irps → n ≢ k → owner irps E n ≡ Some a → owner irps E k ≡ Some b → a.pass ≡ b.pass → a.lane ≡ b.lane → a.lane ≡ 8
 

@@ -1,21 +1,16 @@
 -- The earlier lives of the IRPs that were used again, each with the step that ended it.
-use Rattle.std.specs.Prelude.{ℕ, ◌==◌, not, Bool, false, List, [], ◌∷◌, ◌++◌, codes, decimal, if◌then◌else◌}
+use Rattle.std.specs.Prelude.{◌==◌, not, Bool, false, List, [], ◌∷◌, ◌++◌, if◌then◌else◌}
 use Rattle.std.specs.Option.{option_map_or}
 use Rattle.irp_core.specs.declared.ids.IrpLife.{IrpLife}
 use Rattle.irp_core.specs.declared.step.Kind.{Kind, TheVariants.{Done}}
-use Rattle.irp_core.specs.Texts.{name_text, pass_text}
-use Rattle.csq_draw.specs.declared.irps.{IrpNow.{IrpNow}, Seen.{Seen}}
+use Rattle.csq_draw.specs.declared.irps.{IrpNow.{IrpNow}, LastSeen.{LastSeen}}
 use Rattle.csq_draw.specs.declared.lives.PastLife.{PastLife}
 use Rattle.csq_draw.specs.declared.rows.Row.{Row}
 use Rattle.csq_draw.specs.Irps.{irp_at}
 
--- how a life ended, in a sentence
-abbrev pub past_text : PastLife → List ℕ
-past_text life = codes "IRP " ++ (name_text life.name ++ (codes " was completed by " ++ (pass_text life.pass ++ (codes " in line " ++ (decimal life.line ++ codes ", and used again")))))
-
 -- whether an IRP of which so much is known was used again after this life: its words are another one's
 abbrev pub was_reused : IrpLife → IrpNow → Bool
-was_reused i now = option_map_or (λ (seen : Seen). not (seen.words.name.life.0 == i.life.0)) now.last false
+was_reused i now = option_map_or (λ (seen : LastSeen). not (seen.words.name.life.0 == i.life.0)) now.last false
 
 -- of a row's step that completed an IRP, if that was used again: the life that it ended
 abbrev pub past_of : List IrpNow → Row → Kind → List PastLife

@@ -25,7 +25,7 @@ owner_by _ found p row lane before = before
 abbrev pub owner_after : List (Option Owner) → Option Owner → Made → ℕ → Option Owner
 owner_after os before m row = owner_by m.kind m.found m.pass row (lane_for os m.pass before) before
 
--- who has IRP n of so many after E, if each step has a row, from 0 on
+-- who has IRP n of this number after E, if each step has a row, from 0 on
 abbrev pub owner : ℕ → List Made → IrpId → Option Owner
 owner irps [] n = None
 owner irps (m ∷ E) n = if is_of_irp n m.kind then owner_after (table (λ k. owner irps E (record { 0 = k })) irps) (owner irps E n) m (length E) else owner irps E n
@@ -41,6 +41,6 @@ ended_by _ before = None
 abbrev pub owner_named : ℕ → List Made → Kind → Option Owner
 owner_named irps E k = option_map_or (λ i. owner irps E i.irp) (name_of k) None
 
--- who has each of so many IRPs
+-- who has each of this number of IRPs
 abbrev pub owners : ℕ → List Made → List (Option Owner)
 owners irps E = table (λ n. owner irps E (record { 0 = n })) irps

@@ -5,39 +5,31 @@ use Rattle.irp_core.specs.declared.ids.{PassId.{PassId}}
 use Rattle.irp_core.specs.declared.step.Kind.{Kind}
 use Rattle.irp_core.specs.Runs.{Size}
 use Rattle.irp_core.specs.Steps.{name_of, same_pass}
-use Rattle.csq_replay.specs.declared.lines.answer.Ended.{Ended}
 use Rattle.csq_replay.specs.declared.schedule.closing.IrpLine.{IrpLine}
-use Rattle.csq_replay.specs.declared.schedule.outcome.{Outcome.{Outcome, TheVariants.{Skipped, Accepted, Stopped}}, Stop.{Stop}}
-use Rattle.csq_replay.specs.Lines.{IsAnswer, RepliesTo}
-use Rattle.csq_replay.specs.Outcomes.{ComesTo}
-use Rattle.csq_replay.specs.Schedule.{Numbered, run_of, Closes}
-use Rattle.csq_draw.specs.Captions.{CaptionText, NamedPass, new_caption, ended_caption, caption_after}
-use Rattle.csq_draw.specs.Headings.{head_text, name_beside}
-use Rattle.csq_draw.specs.declared.view.{Format.{Format, TheVariants.{Svg, Text}}, View.{View}, Window.{Window}}
-use Rattle.csq_draw.specs.declared.picture.Sheet.{Sheet}
+use Rattle.csq_replay.specs.declared.schedule.outcome.Stop.{Stop}
+use Rattle.csq_replay.specs.Schedule.{Numbered, run_of}
+use Rattle.csq_draw.specs.declared.view.Window.{Window}
+use Rattle.csq_draw.specs.declared.sheet.Sheet.{Sheet}
 use Rattle.csq_draw.specs.declared.spans.LineEnd.{LineEnd, TheVariants.{Step, Refusal, Last}}
 use Rattle.csq_draw.specs.declared.owners.Owner.{Owner}
 use Rattle.csq_explain.specs.declared.passes.PassNow.{PassNow}
 use Rattle.csq_explain.specs.declared.reasons.Reason.{Reason}
 use Rattle.csq_draw.specs.declared.rows.Row.{Row}
-use Rattle.csq_draw.specs.declared.irps.{IrpNow.{IrpNow}, Seen.{Seen}, Spot.{Spot}}
+use Rattle.csq_draw.specs.declared.irps.{IrpNow.{IrpNow}, LastSeen.{LastSeen}, Spot.{Spot}}
 use Rattle.csq_draw.specs.Arrows.{found_at}
 use Rattle.csq_draw.specs.Endings.{rest_of}
-use Rattle.csq_draw.specs.Irps.{new_irp, irp_at, irp_named, with_irp, irps_after, irp_columns, irp_column, has_several}
+use Rattle.csq_draw.specs.Irps.{new_irp, irp_at, irp_named, with_irp, irps_after, irp_column}
 use Rattle.csq_draw.specs.Marks.{takes_lock, lets_go}
 use Rattle.csq_draw.specs.declared.marks.Legality.{Legality, TheVariants.{Legal}}
 use Rattle.csq_draw.specs.Owners.{owners}
-use Rattle.csq_draw.specs.Passes.{columns, column_of, makes_step}
+use Rattle.csq_draw.specs.Passes.{columns, column_of}
 use Rattle.csq_explain.specs.Passes.{all_passes}
 use Rattle.csq_draw.specs.Rows.{rows_of}
 use Rattle.csq_explain.specs.Reasons.{reason_of}
 use Rattle.csq_draw.specs.declared.element.Element.{Element}
-use Rattle.csq_draw.specs.Elements.{picture}
-use Rattle.csq_draw.specs.Layout.{left}
-use Rattle.csq_draw.specs.Terminal.{each_text, rows_text, widest_line, ended_lines, closed_lines, broken_lines}
 use Rattle.csq_draw.specs.Windows.{cut, open_in, place, places, shown_passes}
 use Rattle.csq_draw.specs.declared.element.Element.TheVariants as element
-use Rattle.csq_draw.specs.declared.ending.{Below.TheVariants.{Bar, Refused, Because, Past, Irp, AtRest, Broken as BrokenLine, Harm, NoHarm}, Ending.{Ending, TheVariants.{Stopped as StoppedEnd, Closed, Broken}}, Rest.{Rest}}
+use Rattle.csq_draw.specs.declared.ending.{Below.TheVariants.{Bar, Refused, Because, Past, Irp, AtRest, Broken as BrokenLine, Harm, NoHarm}, PictureEnd.{PictureEnd, TheVariants.{Stopped as StoppedEnd, Closed, Broken}}, RestState.{RestState}}
 use Rattle.csq_explain.specs.declared.harms.HarmAt.{HarmAt}
 use Rattle.csq_draw.specs.declared.lives.PastLife.{PastLife}
 use Rattle.csq_draw.specs.Lives.{past_lives}
@@ -47,7 +39,7 @@ abbrev pub each : {A : Type 0} → (ℕ → A → List Element) → ℕ → List
 each elements n [] = []
 each elements n (x ∷ xs) = elements n x ++ each elements (n + 1) xs
 
--- the column of p, over so many rows
+-- the column of p, over this number of rows
 abbrev pub column_element : List PassNow → ℕ → PassId → Element
 column_element passes rows p = element.Column (record { column = column_of passes p; pass = p; rows = rows })
 
@@ -65,8 +57,8 @@ abbrev pub span_elements : List PassNow → ℕ → LineEnd → Option Owner →
 span_elements passes to end (Some owner) = if nat_lt owner.row to then element.Span (record { column = column_of passes owner.pass; owner = owner; to = to; end = end }) ∷ [] else []
 span_elements passes to end None = []
 
--- the words of the IRP at this place from its last step to a row, or to the end, right of so many columns
-abbrev pub bars_elements : ℕ → ℕ → ℕ → Bool → Option Seen → List Element
+-- the words of the IRP at this place from its last step to a row, or to the end, right of this number of columns
+abbrev pub bars_elements : ℕ → ℕ → ℕ → Bool → Option LastSeen → List Element
 bars_elements columns place to to_the_end (Some seen) = element.Bars (record { columns = columns; place = place; from = seen.row; to = to; to_the_end = to_the_end; words = seen.words }) ∷ []
 bars_elements columns place to to_the_end None = []
 
@@ -106,7 +98,7 @@ behind_elements passes irps before row = shade_elements passes row row.lock ++ (
 abbrev pub row_after : List PassNow → List IrpNow → IrpNow → Row → List Element
 row_after passes irps before row = number_element row ∷ (behind_elements passes irps before row ++ mark_element passes irps row ∷ call_elements passes before row row.legality)
 
--- so many IRPs as these, of which nothing is known yet
+-- as many IRPs as these, of which nothing is known yet
 abbrev pub fresh_irps : List IrpNow → List IrpNow
 fresh_irps irps = replicate (length irps) new_irp
 
@@ -131,14 +123,6 @@ last_elements passes irps rows n now = bars_elements (columns passes) (irp_colum
 abbrev pub word_elements : List PassNow → List IrpNow → ℕ → IrpNow → List Element
 word_elements passes irps n now = if is_some now.last then element.WordColumns (record { columns = columns passes; place = irp_column irps (record { 0 = n }); irp = record { 0 = n } }) ∷ [] else []
 
--- beside the number of a pass that makes a step: its name
-abbrev pub pass_name_text : List PassNow → NamedPass → List ℕ
-pass_name_text passes n = if makes_step passes n.pass then name_beside (left (column_of passes n.pass) + 130) n.name else []
-
--- the head of a picture of these passes, by the numbers of its IRPs, of its rows and of the lines of text below them, by how many pixels the widest of these lines takes, and by its caption
-abbrev pub picture_head : List PassNow → ℕ → ℕ → ℕ → ℕ → CaptionText → List ℕ
-picture_head passes irps rows lines text_width c = head_text (record { columns = columns passes; irps = irps; rows = rows; lines = lines; text_width = text_width; caption = c.lines }) c.title c.below ++ each_text (λ n name. pass_name_text passes name) 0 c.names
-
 -- of the line that ended the handling: its bar, its number, what is reported for it, and why it ended it
 abbrev pub refused_elements : ℕ → ℕ → Reason → List Element
 refused_elements rows line reason = element.Below rows Bar ∷ (element.Number (record { row = rows; line = line })
@@ -153,7 +137,7 @@ abbrev pub closing_elements : List IrpNow → ℕ → ℕ → ℕ → IrpLine �
 closing_elements irps rows first nth line = element.Below rows (Irp (nth + first) line (irp_at irps line.name.irp)) ∷ []
 
 -- of what is reported in the end: each earlier life, each IRP, and whether all is at rest
-abbrev pub closed_elements : List IrpNow → List PastLife → List IrpLine → Rest → ℕ → List Element
+abbrev pub closed_elements : List IrpNow → List PastLife → List IrpLine → RestState → ℕ → List Element
 closed_elements irps lives reported rest rows = each (past_elements rows) 0 lives
     ++ (each (closing_elements irps rows (length lives)) 0 reported ++ element.Below rows (AtRest (length reported + length lives) rest) ∷ [])
 
@@ -169,30 +153,23 @@ harms_elements rows (h ∷ harms) = each (harm_elements rows) 0 (h ∷ harms)
 abbrev pub broken_elements : ℕ → Reason → List HarmAt → ℕ → List Element
 broken_elements n reason harms rows = element.Below rows (BrokenLine n reason) ∷ harms_elements rows harms
 
--- how many lines of text that takes below where the protocol was broken
-abbrev pub harm_lines : List HarmAt → ℕ
-harm_lines [] = 1
-harm_lines (h ∷ harms) = length (h ∷ harms)
-
--- how a picture ends: how many lines of text that takes, its elements below so many rows, and its text for a terminal
+-- how a picture ends: its elements below this number of rows
 pub record EndShown : Type 0 where
-  pub lines : ℕ
   pub below : ℕ → List Element
-  pub text : List ℕ
 
 -- with the nth line, which ended the handling for this reason
 abbrev pub stopped_end : ℕ → Reason → EndShown
-stopped_end n reason = record { lines = 3; below = λ rows. refused_elements rows n reason; text = ended_lines n reason }
+stopped_end n reason = record { below = λ rows. refused_elements rows n reason }
 
 -- with what is reported in the end
-abbrev pub closed_end : List IrpNow → List PastLife → List IrpLine → Rest → EndShown
-closed_end irps lives reported rest = record { lines = length reported + (length lives + 1); below = closed_elements irps lives reported rest; text = closed_lines irps lives reported rest }
+abbrev pub closed_end : List IrpNow → List PastLife → List IrpLine → RestState → EndShown
+closed_end irps lives reported rest = record { below = closed_elements irps lives reported rest }
 
 -- with the nth line, in which the protocol was broken, and what goes wrong
 abbrev pub broken_end : ℕ → Reason → List HarmAt → EndShown
-broken_end n reason harms = record { lines = harm_lines harms + 2; below = broken_elements n reason harms; text = broken_lines n reason harms }
+broken_end n reason harms = record { below = broken_elements n reason harms }
 
-abbrev pub end_of : Ending → EndShown
+abbrev pub end_of : PictureEnd → EndShown
 end_of (StoppedEnd n reason) = stopped_end n reason
 end_of (Closed irps lives reported rest) = closed_end irps.now lives.now reported.now rest
 end_of (Broken n reason harms) = broken_end n reason harms.now
@@ -209,17 +186,21 @@ pub record Shown : Type 0 where
 abbrev pub shown_by : Sheet → Shown
 shown_by s = record { passes = s.passes.now; irps = s.irps.now; rows = s.rows.now; owners = s.owners.now; refused = s.refused }
 
--- what stands above so many rows of these passes and IRPs, and the words that are kept to the end
+-- what stands above this number of rows of these passes and IRPs, and the words that are kept to the end
 abbrev pub above_elements : List PassNow → List IrpNow → ℕ → List Element
 above_elements passes irps count = element.Lines ∷ (each (column_elements passes count) 0 passes ++ (each (word_elements passes irps) 0 irps ++ each (last_elements passes irps count) 0 irps))
 
--- what stands above so many rows, the rows, and the owners after them
+-- what stands above this number of rows, the rows, and the owners after them
 abbrev pub shown_elements : Shown → ℕ → List Element
 shown_elements s count = above_elements s.passes s.irps count ++ (rows_elements s.passes s.irps (fresh_irps s.irps) s.rows ++ owners_elements s.passes count s.refused s.owners)
 
 -- and then how it ends
 abbrev pub picture_of : Shown → ℕ → EndShown → List Element
 picture_of s count e = shown_elements s count ++ e.below count
+
+-- the elements of what is shown, and of how it ends
+abbrev pub elements_of : Shown → EndShown → List Element
+elements_of s e = picture_of s (length s.rows) e
 
 -- what a window shows of it
 abbrev pub by_places : Window → List ℕ → Shown → Shown
@@ -229,12 +210,7 @@ abbrev pub seen : Option Window → Shown → Shown
 seen (Some w) s = by_places w (places w 0 s.rows) s
 seen None s = s
 
--- how it is drawn, below this caption
-abbrev pub shown_text : Format → CaptionText → Shown → EndShown → List ℕ
-shown_text Svg c s e = picture_head s.passes (irp_columns s.irps) (length s.rows) e.lines (widest_line 0 e.text) c ++ picture (picture_of s (length s.rows) e)
-shown_text Text c s e = c.plain ++ (rows_text s.passes (has_several s.irps) s.rows ++ e.text)
-
--- what is known of so many IRPs after the steps W
+-- what is known of the IRPs after the steps W
 abbrev pub irps_of : Size → List Numbered → List IrpNow
 irps_of size W = irps_after (replicate size.irps new_irp) (rows_of size W)
 
@@ -248,42 +224,3 @@ stop_of size W n stop = stopped_end n (reason_of size W stop)
 
 abbrev pub close_of : Size → List Numbered → List IrpLine → Bool → EndShown
 close_of size W reported at_rest = closed_end (irps_of size W) (past_lives (irps_of size W) (rows_of size W)) reported (rest_of (all_passes size W) at_rest)
-
--- what a schedule led to so far: the caption of its picture, and the steps
-pub record Drawn : Type 0 where
-  pub caption : CaptionText
-  pub steps : List Numbered
-
--- before the first line
-abbrev pub new_drawn : Drawn
-new_drawn = record { caption = new_caption; steps = [] }
-
--- what it leads to with the nth line, if the handling goes on: a comment before the first step is added to the caption
-abbrev pub drawn_after : Drawn → ℕ → List ℕ → Outcome → Option Drawn
-drawn_after d n line Skipped = Some (record { caption = caption_after d.caption line; steps = d.steps })
-drawn_after d n line (Accepted m) = Some (record { caption = ended_caption d.caption; steps = record { line = n; step = m } ∷ d.steps })
-drawn_after d n line (Stopped stop) = None
-
--- the text of a schedule that led so far, in this view, which ends so
-abbrev pub text_of : Size → View → Drawn → EndShown → List ℕ
-text_of size view d e = shown_text view.format d.caption (seen view.window (steps_shown size d.steps)) e
-
--- a line that ends the handling is answered the picture of the steps before it and of itself, and any other nothing
-abbrev pub drawn_text : Size → View → Drawn → ℕ → Outcome → List ℕ
-drawn_text size view d n (Stopped stop) = text_of size view d (stop_of size d.steps n stop)
-drawn_text size view d n _ = []
-
-abbrev pub DrawsLine : Size → View → Drawn → ℕ → List ℕ → List ℕ → Option Drawn → Type 0
-DrawsLine size view d n line text more = (comes : Outcome) × ComesTo size (run_of d.steps) line comes × (text ≡ drawn_text size view d n comes) × (more ≡ drawn_after d n line comes)
-
--- if all lines were handled, it is the picture of the steps and of what is reported in the end
-abbrev pub DrawsClosing : Size → View → Drawn → List ℕ → Type 0
-DrawsClosing size view d text = (reported : List IrpLine) × (at_rest : Bool) × Closes size (run_of d.steps) reported at_rest × (text ≡ text_of size view d (close_of size d.steps reported at_rest))
-
--- a schedule is drawn so, in this view: of the longest run that its lines make
-abbrev pub IsDrawing : Size → View → List ℕ → List ℕ → Ended → Type 0
-IsDrawing size view = IsAnswer (DrawsLine size view) (DrawsClosing size view) new_drawn
-
--- of a reader and a writer whose bytes are known: a schedule was read, and its picture was written
-abbrev pub DrawsSchedule : Size → View → Option (List ℕ) → Option (List ℕ) → Option (List ℕ) → Option (List ℕ) → Ended → Type 0
-DrawsSchedule size view = RepliesTo (IsDrawing size view)

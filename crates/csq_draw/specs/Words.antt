@@ -29,12 +29,3 @@ abbrev pub changes_flag : Kind → ℕ → Bool
 changes_flag (Flag i) found = found == 0
 changes_flag (Renew i) found = true
 changes_flag _ found = false
-
--- whether it changed the cancel routine, or began it anew
-abbrev pub changes_routine : Kind → ℕ → Bool
-changes_routine (Arm i) found = found == 0
-changes_routine (Disarm i) found = found == 1
-changes_routine (Take i) found = found == 1
-changes_routine (Renew i) found = true
-changes_routine (Rearm i) found = found == 0
-changes_routine _ found = false

@@ -12,6 +12,7 @@ use Rattle.csq_explain.specs.LineSteps.{made_in}
 use Rattle.csq_explain.specs.Passes.{new_pass_now}
 use Rattle.csq_explain.specs.WordValues.{words_after, words_with}
 use Rattle.csq_draw.specs.declared.marks.Legality.{Legality}
+use Rattle.csq_draw.specs.declared.refusals.FirstRefusal.{FirstRefusal}
 use Rattle.csq_draw.specs.declared.rows.Row.{Row}
 
 -- these words after a step of i of this kind: none if they are of another life, which it doesn't change
@@ -42,3 +43,8 @@ with_maker passes p = slice_set passes p.0 (record { inside = (slice_index_or pa
 abbrev pub makers : List PassNow → List Row → List PassNow
 makers passes [] = passes
 makers passes (row ∷ rows) = makers (with_maker passes row.step.made.pass) rows
+
+-- the passes of a picture: of an order that broke the protocol so, those of its rows make steps too
+abbrev pub shown_makers : Option FirstRefusal → List PassNow → List Row → List PassNow
+shown_makers (Some refusal) passes rows = makers passes rows
+shown_makers None passes rows = passes

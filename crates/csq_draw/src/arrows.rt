@@ -1,6 +1,6 @@
 //! An arrow from the step that wrote a word to the one that found it.
 ghost use Rattle.std.specs.Prelude.{◌≡◌};
-ghost use Rattle.csq_draw.specs.Arrows.{found_in, found_at, side, gutter, is_near};
+ghost use Rattle.csq_draw.specs.Arrows.{found_in, found_at};
 
 use crate::irps::{IrpNow, Spot};
 use crate::layout::{left, top};
@@ -37,9 +37,7 @@ pub(crate) fn found_at(before: IrpNow, row: Row) -> Option<Spot>
 }
 
 /// The side of a box in one column that faces another one.
-fn side(column: u32, other: u32) -> u64
-    ensures { result ≡ side column other }
-{
+fn side(column: u32, other: u32) -> u64 {
     if column < other {
         left(column) + 220
     } else {
@@ -48,9 +46,7 @@ fn side(column: u32, other: u32) -> u64
 }
 
 /// The middle of the space beside a column, on the side that faces another one.
-fn gutter(column: u32, other: u32) -> u64
-    ensures { result ≡ gutter column other }
-{
+fn gutter(column: u32, other: u32) -> u64 {
     if column < other {
         left(column) + 256
     } else {
@@ -59,9 +55,7 @@ fn gutter(column: u32, other: u32) -> u64
 }
 
 /// Whether no box stands between two columns.
-fn is_near(column: u32, other: u32) -> bool
-    ensures { result ≡ is_near column other }
-{
+fn is_near(column: u32, other: u32) -> bool {
     u64::from(column) <= u64::from(other) + 1 && u64::from(other) <= u64::from(column) + 1
 }
 
@@ -72,11 +66,6 @@ struct Detour(Arrow);
 /// Beside its column to the upper edge of its row, along that, and on beside the other column; nothing for columns that
 /// have no other between them.
 impl fmt::Display for Detour {
-    ghost use Rattle.std.specs.Prelude.{Some};
-    ghost use Rattle.csq_draw.specs.Arrows.{detour_text};
-
-    ghost output = { λ detour. Some (detour_text detour.0) };
-
     fn fmt<W: fmt::Write>(&self, f: &mut fmt::Formatter<W>) -> fmt::Result {
         let (from, to) = (self.0.from_column, self.0.column);
         if is_near(from, to) {
@@ -89,11 +78,6 @@ impl fmt::Display for Detour {
 
 /// It runs between the facing sides of the two boxes, past those between.
 impl fmt::Display for Arrow {
-    ghost use Rattle.std.specs.Prelude.{Some};
-    ghost use Rattle.csq_draw.specs.Arrows.{arrow_text};
-
-    ghost output = { λ arrow. Some (arrow_text arrow) };
-
     fn fmt<W: fmt::Write>(&self, f: &mut fmt::Formatter<W>) -> fmt::Result {
         let x = side(self.from_column, self.column);
         let (y, detour) = (top(self.from.row) + 30, Detour(*self));

@@ -1,7 +1,4 @@
 //! The words of an IRP between two of its steps, as bars.
-ghost use Rattle.std.specs.Prelude.{◌≡◌};
-ghost use Rattle.csq_draw.specs.Bars.{set_class};
-
 use crate::layout::{flag_x, routine_x, top};
 use csq_explain::WordValues;
 use std::fmt;
@@ -19,18 +16,11 @@ pub(crate) struct Bars {
 }
 
 /// A bar is wide if its word is set.
-pub(crate) fn set_class(set: bool) -> &'static str
-    ensures { result.now ≡ set_class set }
-{
+fn set_class(set: bool) -> &'static str {
     if set { "on" } else { "off" }
 }
 
 impl fmt::Display for Bars {
-    ghost use Rattle.std.specs.Prelude.{Some};
-    ghost use Rattle.csq_draw.specs.Bars.{bars_text};
-
-    ghost output = { λ bars. Some (bars_text bars) };
-
     fn fmt<W: fmt::Write>(&self, f: &mut fmt::Formatter<W>) -> fmt::Result {
         let words = self.words;
         let colour = words.name.irp.0 % 8;

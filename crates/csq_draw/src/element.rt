@@ -33,17 +33,11 @@ pub(crate) enum Element {
     Mark(Mark),
     /// The call that it is of.
     Call(CallLine),
-    /// What stands below so many rows: the line that ended the handling, or what is reported in the end.
+    /// What stands below this number of rows: the line that ended the handling, or what is reported in the end.
     Below(u32, Below),
 }
 
 impl fmt::Display for Element {
-    ghost use Rattle.std.specs.Prelude.{Some};
-    ghost use Rattle.csq_draw.specs.Elements.{element_text};
-
-    ghost output = { λ element. Some (element_text element) };
-
-    #[tactic(auto, unfolding(crate::specs::Elements::element_text))]
     fn fmt<W: fmt::Write>(&self, f: &mut fmt::Formatter<W>) -> fmt::Result {
         match *self {
             Element::Lines => write!(f, "<text class='n s' x='46' y='26'>line</text>"),

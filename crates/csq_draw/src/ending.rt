@@ -2,8 +2,8 @@
 ghost use Rattle.std.specs.Prelude.{◌≡◌, ◌<◌, ◌≤◌, ◌+◌, length, position, IfOk, IfSome};
 ghost use Rattle.irp_core.specs.Inside.{is_outside};
 ghost use Rattle.csq_draw.specs.Endings.{is_unfinished, rest_of};
-ghost use Rattle.csq_draw.specs.Pictures.{end_of};
 
+use crate::circles::word_text;
 use crate::irps::{Claim, IrpNow, Spot};
 use crate::layout::top;
 use crate::lives::PastLife;
@@ -16,15 +16,9 @@ use std::fmt;
 
 /// A line that ended the handling, as it is reported: its step, if it names one, and why it ended it.
 #[derive(Clone, Copy)]
-pub(crate) struct StopText(pub(crate) Stop);
+struct StopText(Stop);
 
 impl fmt::Display for StopText {
-    ghost use Rattle.std.specs.Prelude.{Some};
-    ghost use Rattle.csq_draw.specs.Endings.{ended_line_text};
-
-    ghost output = { λ refusal. Some (ended_line_text refusal.0) };
-
-    #[tactic(auto, unfolding(crate::specs::Endings::ended_line_text))]
     fn fmt<W: fmt::Write>(&self, f: &mut fmt::Formatter<W>) -> fmt::Result {
         let stop = self.0;
         match stop {
@@ -40,12 +34,6 @@ struct HavingSince(Option<Claim>, &'static str);
 
 /// As `, and p2 has owed it since line 4`.
 impl fmt::Display for HavingSince {
-    ghost use Rattle.std.specs.Prelude.{Some};
-    ghost use Rattle.csq_draw.specs.Endings.{having_since};
-
-    ghost output = { λ having. Some (having_since having.1.now having.0) };
-
-    #[tactic(auto, unfolding(crate::specs::Endings::having_since))]
     fn fmt<W: fmt::Write>(&self, f: &mut fmt::Formatter<W>) -> fmt::Result {
         let HavingSince(claim, verb) = *self;
         match claim {
@@ -63,11 +51,6 @@ struct InLine(Option<Spot>);
 
 /// As ` in line 11`.
 impl fmt::Display for InLine {
-    ghost use Rattle.std.specs.Prelude.{Some};
-    ghost use Rattle.csq_draw.specs.Endings.{in_line};
-
-    ghost output = { λ line. Some (in_line line.0) };
-
     fn fmt<W: fmt::Write>(&self, f: &mut fmt::Formatter<W>) -> fmt::Result {
         match self.0 {
             Some(spot) => write!(f, " in line {}", spot.line),
@@ -78,17 +61,12 @@ impl fmt::Display for InLine {
 
 /// Where an IRP is in the end, who has it since which line, and in which line it was completed.
 #[derive(Clone, Copy)]
-struct Place(IrpPlace, IrpNow);
+struct Whereabouts(IrpPlace, IrpNow);
 
 /// As ` was completed once, by p2 in line 11, with STATUS_CANCELLED`.
-impl fmt::Display for Place {
-    ghost use Rattle.std.specs.Prelude.{Some};
-    ghost use Rattle.csq_draw.specs.Endings.{place_text};
-
-    ghost output = { λ place. Some (place_text place.1 place.0) };
-
+impl fmt::Display for Whereabouts {
     fn fmt<W: fmt::Write>(&self, f: &mut fmt::Formatter<W>) -> fmt::Result {
-        let Place(place, IrpNow { claim, done, .. }) = *self;
+        let Whereabouts(place, IrpNow { claim, done, .. }) = *self;
         match place {
             IrpPlace::Home => write!(f, " wasn't inserted"),
             IrpPlace::Listed => write!(f, " is in the list{}", HavingSince(claim, "has owed")),
@@ -107,40 +85,27 @@ impl fmt::Display for Place {
 
 /// Where an IRP is in the end, in a sentence.
 #[derive(Clone, Copy)]
-pub(crate) struct IrpEnding(pub(crate) IrpLine, pub(crate) IrpNow);
+struct IrpEnding(IrpLine, IrpNow);
 
 /// As `IRP 0 is in the list, and p2 has owed it since line 4; its Cancel flag is set`.
 impl fmt::Display for IrpEnding {
-    ghost use Rattle.std.specs.Prelude.{Some};
-    ghost use Rattle.csq_draw.specs.Endings.{irp_ending};
-
-    ghost output = { λ ending. Some (irp_ending ending.0 ending.1) };
-
     fn fmt<W: fmt::Write>(&self, f: &mut fmt::Formatter<W>) -> fmt::Result {
         let IrpEnding(line, now) = *self;
-        let (irp, place) = (line.name, Place(line.place, now));
-        if line.cancelled {
-            write!(f, "IRP {irp}{place}; its Cancel flag is set")
-        } else {
-            write!(f, "IRP {irp}{place}; its Cancel flag is clear")
-        }
+        let (irp, place) = (line.name, Whereabouts(line.place, now));
+        let flag = word_text(line.cancelled);
+        write!(f, "IRP {irp}{place}; its Cancel flag is {flag}")
     }
 }
 
 /// Whether all is at rest in the end, and else the pass whose call is unfinished and the line in which that began,
 /// if there is one.
 #[derive(Clone, Copy)]
-pub(crate) struct Rest {
+pub(crate) struct RestState {
     pub(crate) at_rest: bool,
     pub(crate) unfinished: Option<(PassId, usize)>,
 }
 
-impl fmt::Display for Rest {
-    ghost use Rattle.std.specs.Prelude.{Some};
-    ghost use Rattle.csq_draw.specs.Endings.{rest_text};
-
-    ghost output = { λ rest. Some (rest_text rest) };
-
+impl fmt::Display for RestState {
     fn fmt<W: fmt::Write>(&self, f: &mut fmt::Formatter<W>) -> fmt::Result {
         match (self.at_rest, self.unfinished) {
             (true, _) => write!(
@@ -172,73 +137,49 @@ fn unfinished_number(passes: &[PassNow]) -> Option<usize>
 }
 
 /// Whether all is at rest in the end, and the first pass whose call is unfinished.
-pub(crate) fn rest_of(passes: &[PassNow], at_rest: bool) -> Rest
+pub(crate) fn rest_of(passes: &[PassNow], at_rest: bool) -> RestState
     requires { length passes.now ≤ 65 }
     ensures { result ≡ rest_of passes.now at_rest }
 {
     match unfinished_number(passes) {
-        Some(number) => Rest {
+        Some(number) => RestState {
             at_rest,
             unfinished: Some((PassId(number as u32), passes[number].line)),
         },
-        None => Rest {
+        None => RestState {
             at_rest,
             unfinished: None,
         },
     }
 }
 
-/// The line in which the protocol was broken, and what was refused there.
-#[derive(Clone, Copy)]
-pub(crate) struct BrokenLine(pub(crate) usize, pub(crate) Reason);
-
-/// As `the protocol is broken in line 9: p3 done 0 refused NotHeld`.
-impl fmt::Display for BrokenLine {
-    ghost use Rattle.std.specs.Prelude.{Some};
-    ghost use Rattle.csq_draw.specs.Endings.{broken_line};
-
-    ghost output = { λ broken. Some (broken_line broken.0 broken.1) };
-
-    fn fmt<W: fmt::Write>(&self, f: &mut fmt::Formatter<W>) -> fmt::Result {
-        let BrokenLine(line, reason) = *self;
-        write!(
-            f,
-            "the protocol is broken in line {line}: {}",
-            StopText(reason.stop)
-        )
-    }
-}
-
 /// How a picture ends.
 #[derive(Clone, Copy)]
-pub(crate) enum Ending<'a> {
+pub(crate) enum PictureEnd<'a> {
     /// The line of this number ended the handling, for this reason.
     Stopped(usize, Reason),
     /// All lines were handled: what is known of the IRPs, their earlier lives, where each is, and whether all is at rest.
-    Closed(&'a [IrpNow], &'a [PastLife], &'a [IrpLine], Rest),
+    Closed(&'a [IrpNow], &'a [PastLife], &'a [IrpLine], RestState),
     /// The protocol was broken in the line of this number, for this reason, and this goes wrong.
     Broken(usize, Reason, &'a [HarmAt]),
 }
 
-/// How many these and so many more are.
+/// The sum of a number and another one, as a `u32`.
 pub(crate) fn count_with(number: usize, more: u32) -> Result<u32, AllocError>
     ensures { IfOk result (λ count. count ≡ number + more) }
 {
     count(number)?.checked_add(more).ok_or(AllocError)
 }
 
-impl Ending<'_> {
+impl PictureEnd<'_> {
     /// How many lines of text it takes.
-    pub(crate) fn lines(self) -> Result<u32, AllocError>
-        ensures { IfOk result (λ lines. lines ≡ (end_of self.entry).lines) }
-    {
+    pub(crate) fn lines(self) -> Result<u32, AllocError> {
         match self {
-            Ending::Stopped(_, _) => Ok(3),
-            Ending::Closed(_, lives, reported, _) => {
+            PictureEnd::Stopped(_, _) | PictureEnd::Broken(_, _, []) => Ok(3),
+            PictureEnd::Closed(_, lives, reported, _) => {
                 count_with(reported.len(), count_with(lives.len(), 1)?)
             }
-            Ending::Broken(_, _, []) => Ok(3),
-            Ending::Broken(_, _, harms) => count_with(harms.len(), 2),
+            PictureEnd::Broken(_, _, harms) => count_with(harms.len(), 2),
         }
     }
 }
@@ -257,63 +198,66 @@ pub(crate) enum Below {
     /// Where an IRP is in the end, as the nth line.
     Irp(u32, IrpLine, IrpNow),
     /// Whether all is at rest in the end, as the nth line.
-    AtRest(u32, Rest),
+    AtRest(u32, RestState),
     /// The line in which the protocol was broken, and below it why.
     Broken(usize, Reason),
-    /// What goes wrong at a step behind it, as the nth line below that.
+    /// What goes wrong at a step after it, as the nth line below that.
     Harm(u32, HarmAt),
     /// That nothing does.
     NoHarm,
 }
 
-/// What stands below so many rows of a picture.
+/// In a sentence, of a line that breaks the protocol without the reason.
+impl fmt::Display for Below {
+    fn fmt<W: fmt::Write>(&self, f: &mut fmt::Formatter<W>) -> fmt::Result {
+        match *self {
+            Below::Bar => Ok(()),
+            Below::Refused(stop) => StopText(stop).fmt(f),
+            Below::Because(reason) => write!(f, "{reason}"),
+            Below::Past(_, life) => life.fmt(f),
+            Below::Irp(_, line, now) => IrpEnding(line, now).fmt(f),
+            Below::AtRest(_, rest) => rest.fmt(f),
+            Below::Broken(line, reason) => write!(
+                f,
+                "the protocol is broken in line {line}: {}",
+                StopText(reason.stop)
+            ),
+            Below::Harm(_, harm) => write!(f, "{harm}"),
+            Below::NoHarm => write!(f, "{NO_HARM}"),
+        }
+    }
+}
+
+/// What stands below this number of rows of a picture, as SVG.
 #[derive(Clone, Copy)]
 pub(crate) struct BelowRows(pub(crate) u32, pub(crate) Below);
 
 impl fmt::Display for BelowRows {
-    ghost use Rattle.std.specs.Prelude.{Some};
-    ghost use Rattle.csq_draw.specs.Layout.{top};
-    ghost use Rattle.csq_draw.specs.Endings.{below_text};
-
-    ghost output = { λ below. Some (below_text (top below.0) below.1) };
-
-    #[tactic(auto, unfolding(crate::specs::Endings::below_text))]
     fn fmt<W: fmt::Write>(&self, f: &mut fmt::Formatter<W>) -> fmt::Result {
-        let y = top(self.0);
-        match self.1 {
-            Below::Bar => {
-                let y = y + 4;
-                write!(
-                    f,
-                    "<rect class='bad' x='64' y='{y}' width='660' height='52' rx='6'/>"
-                )
-            }
-            Below::Refused(stop) => {
-                write!(f, "<text x='73' y='{}'>{}</text>", y + 34, StopText(stop))
-            }
-            Below::Because(reason) => write!(f, "<text x='73' y='{}'>{reason}</text>", y + 76),
-            Below::Past(nth, life) => {
+        let BelowRows(rows, below) = *self;
+        let y = top(rows);
+        match below {
+            Below::Bar => write!(
+                f,
+                "<rect class='bad' x='64' y='{}' width='660' height='52' rx='6'/>",
+                y + 4
+            ),
+            Below::Refused(_) => write!(f, "<text x='73' y='{}'>{below}</text>", y + 34),
+            Below::Because(_) => write!(f, "<text x='73' y='{}'>{below}</text>", y + 76),
+            Below::Past(nth, _) | Below::Irp(nth, _, _) | Below::AtRest(nth, _) => {
                 let y = y + 28 + 20 * u64::from(nth);
-                write!(f, "<text x='56' y='{y}'>{life}</text>")
+                write!(f, "<text x='56' y='{y}'>{below}</text>")
             }
-            Below::Irp(nth, line, now) => {
-                let (y, sentence) = (y + 28 + 20 * u64::from(nth), IrpEnding(line, now));
-                write!(f, "<text x='56' y='{y}'>{sentence}</text>")
-            }
-            Below::AtRest(nth, rest) => {
-                let y = y + 28 + 20 * u64::from(nth);
-                write!(f, "<text x='56' y='{y}'>{rest}</text>")
-            }
-            Below::Broken(line, reason) => {
-                let (first, second, broken) = (y + 28, y + 48, BrokenLine(line, reason));
-                write!(f, "<text class='f' x='56' y='{first}'>{broken}</text>")?;
+            Below::Broken(_, reason) => {
+                let (first, second) = (y + 28, y + 48);
+                write!(f, "<text class='f' x='56' y='{first}'>{below}</text>")?;
                 write!(f, "<text x='56' y='{second}'>{reason}</text>")
             }
-            Below::Harm(nth, harm) => {
+            Below::Harm(nth, _) => {
                 let y = y + 68 + 20 * u64::from(nth);
-                write!(f, "<text x='56' y='{y}'>{harm}</text>")
+                write!(f, "<text x='56' y='{y}'>{below}</text>")
             }
-            Below::NoHarm => write!(f, "<text x='56' y='{}'>{NO_HARM}</text>", y + 68),
+            Below::NoHarm => write!(f, "<text x='56' y='{}'>{below}</text>", y + 68),
         }
     }
 }

@@ -1,6 +1,13 @@
-//! What stands above the rows of a picture, and behind them.
-use crate::layout::{flag_x, top};
+//! What stands above the rows of a picture, and below all else on its sheet.
+ghost use Rattle.std.specs.Prelude.{◌<◌, ◌≤◌, ◌^◌, length};
+
+use crate::caption::{Caption, PassName};
+use crate::extent::Extent;
+use crate::layout::left;
+use crate::passes::{column_of, makes_step};
+use csq_explain::PassNow;
 use irp_core::PassId;
+use std::alloc::{AllocError, Allocator};
 use std::fmt;
 
 /// What a picture is, for who can't see it, and the look of all that is drawn, on a light page, on a dark one
@@ -38,82 +45,50 @@ circle.on{fill:currentColor}circle.off{fill:#ffffff}circle.b{stroke-width:3}
 text{fill:#e6edf3}.f{fill:#f85149}.s,.m,.n,.q,.t tspan{fill:#b1bac4}}
 </style>";
 
-/// How much a picture shows: the numbers of its columns of passes, of its IRPs, of its rows and of the lines of text
-/// below them, how many pixels the widest of these lines takes, and the number of lines of the caption above.
+/// What stands above all elements of a picture and below them on its sheet: its size, its name, what all pictures share,
+/// its sheet and its caption.
 #[derive(Clone, Copy)]
-pub(crate) struct Extent {
-    pub(crate) columns: u32,
-    pub(crate) irps: u32,
-    pub(crate) rows: u32,
-    pub(crate) lines: u32,
-    pub(crate) text_width: u32,
-    pub(crate) caption: u32,
+pub(crate) struct Head<'a> {
+    extent: Extent,
+    title: &'a str,
+    below: &'a str,
+    lines: u32,
 }
 
-/// The least width of a picture: a line that ended the handling has a bar of 724 pixels. Own rule.
-const LEAST_WIDTH: u64 = 780;
-
-impl Extent {
-    ghost use Rattle.std.specs.Prelude.{◌≡◌};
-    ghost use Rattle.csq_draw.specs.Headings.{width, above, height};
-
-    /// The picture's width, at least that of its widest line of text, which begins 56 pixels from the left.
-    fn width(&self) -> u64
-        ensures { result ≡ width self.now }
-    {
-        let text = 56 + u64::from(self.text_width) + 8;
-        (flag_x(self.columns, self.irps) + 8)
-            .max(LEAST_WIDTH)
-            .max(text)
+impl Head<'_> {
+    /// That of a picture of this extent with this caption.
+    pub(crate) fn new<A: Allocator>(extent: Extent, caption: &Caption<A>) -> Head<'_> {
+        Head {
+            extent,
+            title: caption.title.as_str(),
+            below: caption.below.as_str(),
+            lines: caption.lines,
+        }
     }
 
     /// How much of the picture the caption takes, above all else.
     fn above(&self) -> u64
-        ensures { result ≡ above self.now }
+        ensures { result < 2 ^ 40 }
     {
-        if self.caption == 0 {
-            0
-        } else {
-            18 * u64::from(self.caption) + 22
+        match self.lines {
+            0 => 0,
+            lines => 18 * u64::from(lines) + 22,
         }
-    }
-
-    /// The picture's height.
-    fn height(&self) -> u64
-        ensures { result ≡ height self.now }
-    {
-        self.above() + top(self.rows) + 20 * u64::from(self.lines) + 44
     }
 }
 
-/// The upper edge of a picture, so far above the one that it has without a caption.
+/// The upper edge of a picture, by how much its caption raises it.
 #[derive(Clone, Copy)]
 struct Edge(u64);
 
-/// As `-58`, and `0` where it is the same.
+/// As `-58`, and `0` without a caption.
 impl fmt::Display for Edge {
-    ghost use Rattle.std.specs.Prelude.{Some};
-    ghost use Rattle.csq_draw.specs.Headings.{edge_text};
-
-    ghost output = { λ edge. Some (edge_text edge.0) };
-
     fn fmt<W: fmt::Write>(&self, f: &mut fmt::Formatter<W>) -> fmt::Result {
-        let above = self.0;
-        if above == 0 {
-            write!(f, "0")
-        } else {
-            write!(f, "-{above}")
+        match self.0 {
+            0 => write!(f, "0"),
+            above => write!(f, "-{above}"),
         }
     }
-}
-
-/// What stands above all elements of a picture and behind them: its size, its name, what all pictures share,
-/// its sheet and its caption.
-#[derive(Clone, Copy)]
-pub(crate) struct Head<'a> {
-    pub(crate) extent: Extent,
-    pub(crate) title: &'a str,
-    pub(crate) below: &'a str,
 }
 
 /// The name of a picture: the title of its caption, and without one how many steps there are.
@@ -121,17 +96,10 @@ pub(crate) struct Head<'a> {
 struct Name<'a>(Head<'a>);
 
 impl fmt::Display for Name<'_> {
-    ghost use Rattle.std.specs.Prelude.{Some};
-    ghost use Rattle.csq_draw.specs.Headings.{name_text};
-
-    ghost output = { λ name. Some (name_text name.0.extent.rows name.0.title.now) };
-
     fn fmt<W: fmt::Write>(&self, f: &mut fmt::Formatter<W>) -> fmt::Result {
-        let (rows, title) = (self.0.extent.rows, self.0.title);
-        if title.is_empty() {
-            write!(f, "<title>The steps of a schedule: {rows}</title>")
-        } else {
-            write!(f, "<title>{title}</title>")
+        match self.0.title {
+            "" => write!(f, "The steps of a schedule: {}", self.0.extent.rows),
+            title => write!(f, "{title}"),
         }
     }
 }
@@ -142,14 +110,13 @@ struct Heading<'a>(Head<'a>);
 
 /// On a line of its own, and nothing if there is none.
 impl fmt::Display for Heading<'_> {
-    ghost use Rattle.std.specs.Prelude.{Some};
-    ghost use Rattle.csq_draw.specs.Headings.{heading_text};
-
-    ghost output = { λ heading. Some
-        (heading_text heading.0.extent.caption heading.0.title.now heading.0.below.now) };
-
     fn fmt<W: fmt::Write>(&self, f: &mut fmt::Formatter<W>) -> fmt::Result {
-        let (lines, title, below) = (self.0.extent.caption, self.0.title, self.0.below);
+        let Head {
+            lines,
+            title,
+            below,
+            ..
+        } = self.0;
         if lines == 0 {
             return Ok(());
         }
@@ -162,28 +129,41 @@ impl fmt::Display for Heading<'_> {
 }
 
 impl fmt::Display for Head<'_> {
-    ghost use Rattle.std.specs.Prelude.{Some};
-    ghost use Rattle.csq_draw.specs.Headings.{head_text};
-
-    ghost output = { λ head. Some (head_text head.extent head.title.now head.below.now) };
-
     fn fmt<W: fmt::Write>(&self, f: &mut fmt::Formatter<W>) -> fmt::Result {
-        let (width, height) = (self.extent.width(), self.extent.height());
-        let edge = Edge(self.extent.above());
+        let (width, above) = (self.extent.width(), self.above());
+        let (height, edge) = (above + self.extent.height(), Edge(above));
         let (name, heading) = (Name(*self), Heading(*self));
-        write!(
+        writeln!(
             f,
-            "<svg xmlns='http://www.w3.org/2000/svg' width='{width}' height='{height}' viewBox='0 {edge} {width} {height}' font-family='system-ui,-apple-system,Segoe UI,DejaVu Sans,sans-serif' font-size='12'>\n"
+            "<svg xmlns='http://www.w3.org/2000/svg' width='{width}' height='{height}' viewBox='0 {edge} {width} {height}' font-family='system-ui,-apple-system,Segoe UI,DejaVu Sans,sans-serif' font-size='12'>"
         )?;
-        write!(f, "{name}\n{PICTURE_HEAD}\n")?;
-        write!(
+        writeln!(f, "<title>{name}</title>\n{PICTURE_HEAD}")?;
+        writeln!(
             f,
-            "<rect class='sheet' y='{edge}' width='{width}' height='{height}'/>\n{heading}"
-        )
+            "<rect class='sheet' y='{edge}' width='{width}' height='{height}'/>"
+        )?;
+        write!(f, "{heading}")
     }
 }
 
-/// The name of a pass over its column, and a line down this column for so many rows.
+/// Writes the names of passes that make steps, each beside its number.
+pub(crate) fn write_names<A: Allocator>(
+    passes: &[PassNow],
+    names: &[PassName<A>],
+    text: &mut String<A>,
+) -> Result<(), AllocError>
+    requires { length passes.now ≤ 65 }
+{
+    for named in names {
+        if makes_step(passes, named.pass) {
+            let x = left(column_of(passes, named.pass)) + 130;
+            writeln!(text, "<text class='s' x='{x}' y='26'{}</text>", named.name)?;
+        }
+    }
+    Ok(())
+}
+
+/// The name of a pass over its column, and a line down this column over this number of rows.
 #[derive(Clone, Copy)]
 pub(crate) struct Column {
     pub(crate) column: u32,

@@ -1,7 +1,7 @@
 //! What is known of each IRP as its steps are drawn: its last step, who wrote its words, who has it, and who
 //! completed it.
 ghost use Rattle.std.specs.Prelude.{◌≡◌, ◌<◌, ◌≤◌, length, replicate, take, IfOk};
-ghost use Rattle.csq_draw.specs.Irps.{flag_after, routine_after, claim_by, done_after, last_after, irp_after, irp_at, irp_named, with_irp, irps_after, irp_columns, irp_column, has_several, new_irp};
+ghost use Rattle.csq_draw.specs.Irps.{flag_after, routine_after, claim_by, done_after, last_after, irp_after, irp_at, irp_named, with_irp, irps_after, irp_columns, irp_column, new_irp};
 
 use crate::rows::Row;
 use csq_explain::{StepInCall, WordValues};
@@ -25,7 +25,7 @@ pub(crate) struct Claim {
 
 /// The row of a step of an IRP, and the words of the IRP after it.
 #[derive(Clone, Copy)]
-pub(crate) struct Seen {
+pub(crate) struct LastSeen {
     pub(crate) row: u32,
     pub(crate) words: WordValues,
 }
@@ -34,7 +34,7 @@ pub(crate) struct Seen {
 #[derive(Clone, Copy)]
 pub(crate) struct IrpNow {
     /// The last step that named it, in any life.
-    pub(crate) last: Option<Seen>,
+    pub(crate) last: Option<LastSeen>,
     /// The step that set its Cancel flag.
     pub(crate) flag: Option<Spot>,
     /// The step that set its cancel routine, which nobody has taken since.
@@ -124,11 +124,11 @@ fn irp_after(before: IrpNow, row: Row) -> IrpNow
 }
 
 /// The last step that named an IRP, after this one.
-fn last_after(row: Row, before: Option<Seen>) -> Option<Seen>
+fn last_after(row: Row, before: Option<LastSeen>) -> Option<LastSeen>
     ensures { result ≡ last_after row before }
 {
     match row.words {
-        Some(words) => Some(Seen {
+        Some(words) => Some(LastSeen {
             row: row.row,
             words,
         }),
@@ -186,7 +186,7 @@ fn note_irps(irps: &mut [IrpNow], rows: &[Row])
     }
 }
 
-/// What is known of so many IRPs after these rows.
+/// What is known of this number of IRPs after these rows.
 pub(crate) fn irps_after<A: Allocator>(
     alloc: A,
     count: usize,
@@ -205,14 +205,6 @@ pub(crate) fn irp_columns(irps: &[IrpNow]) -> u32
     ensures { result ≡ irp_columns irps.now }
 {
     irps.iter().filter(|now| now.last.is_some()).count() as u32
-}
-
-/// Whether a step names more than one of these IRPs.
-pub(crate) fn has_several(irps: &[IrpNow]) -> bool
-    requires { length irps.now ≤ 1024 }
-    ensures { result ≡ has_several irps.now }
-{
-    irp_columns(irps) > 1
 }
 
 /// The place of an IRP among those that a step names, from 0 on.

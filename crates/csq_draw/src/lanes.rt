@@ -5,7 +5,7 @@ ghost use Rattle.csq_draw.specs.Lanes.{is_in_lane, is_taken, free_lane, lane_for
 use crate::owners::Owner;
 use irp_core::PassId;
 
-/// How many lanes beside a column have one line at a time. In the lane behind them further lines run on each
+/// How many lanes beside a column have one line at a time. In the lane after them further lines run on each
 /// other. Own rule.
 pub(crate) const LANES: u32 = 8;
 
@@ -27,7 +27,7 @@ fn is_taken(owners: &[Option<Owner>], pass: PassId, lane: u32) -> bool
     owners.iter().any(|owner| is_in_lane(pass, lane, *owner))
 }
 
-/// The first lane that a pass has free, or the one behind all lanes.
+/// The first lane that a pass has free, or the one after all lanes.
 fn free_lane(owners: &[Option<Owner>], pass: PassId) -> u32
     ensures { result ≡ free_lane owners.now pass }
 {

@@ -4,23 +4,10 @@ ghost use Rattle.std.specs.Prelude.{ℕ, List};
 ghost use Rattle.irp_core.specs.declared.step.Made.{Made};
 ghost use Rattle.irp_core.specs.Runs.{Size, EachRunFrom};
 ghost use Rattle.csq_replay.specs.Schedule.{Numbered};
-ghost use Rattle.csq_draw.specs.declared.view.{View.{View}, Window.{Window}};
-ghost use Rattle.csq_draw.specs.declared.wrong_drawing.Refusal.{Refusal};
-ghost use Rattle.csq_draw.specs.Pictures.{IsDrawing};
-ghost use Rattle.csq_draw.specs.WrongDrawings.{IsOrderDrawing, WrongDrawn};
-ghost use Rattle.csq_draw.specs.Laws.{HasOnePicture, EachStepHasOneMark, EachStepShowsItsWords, EachLineHasItsNumber, EachShadeIsOfTheLock, EachArrowIsFromTheWrite, EachBarShowsTheWords, EachStepOfAnOrderHasOneMark, EachShownStepHasOneMark, EachPassHasItsColumn, EachShownPassHasItsColumn, EachIrpHasItsPlace, TheShadedPassHasTheLock, EachDrawnOwnerOwesOrHolds, NoTwoLinesShareALane, TheNinthLaneIsLast};
-
-/// A schedule has at most one picture in each view, so the relation that `draw_schedule` and
-/// `draw_schedule_as_text` meet names its bytes.
-pub fn a_schedule_has_one_picture()
-    ensures { (size : Size) (view : View) (input : List ℕ) → HasOnePicture (IsDrawing size view) input }
-{}
-
-/// So has a schedule that may break the protocol, so the relation that `WrongDrawing` meets names its bytes: what comes
-/// behind a refused step goes by the two words alone.
-pub fn an_order_has_one_picture()
-    ensures { (size : Size) (view : View) (input : List ℕ) → HasOnePicture (IsOrderDrawing size view) input }
-{}
+ghost use Rattle.csq_draw.specs.declared.view.Window.{Window};
+ghost use Rattle.csq_draw.specs.declared.refusals.FirstRefusal.{FirstRefusal};
+ghost use Rattle.csq_draw.specs.Drawings.{Drawn};
+ghost use Rattle.csq_draw.specs.Laws.{EachStepHasOneMark, EachStepShowsItsWords, EachLineHasItsNumber, EachShadeIsOfTheLock, EachArrowIsFromTheWrite, EachBarShowsTheWords, EachStepOfAnOrderHasOneMark, EachShownStepHasOneMark, EachPassHasItsColumn, EachShownPassHasItsColumn, EachIrpHasItsPlace, TheShadedPassHasTheLock, EachDrawnOwnerOwesOrHolds, NoTwoLinesShareALane, TheNinthLaneIsLast};
 
 /// The marks of a picture are one for each step of its run, in order, each on the row of its number and in
 /// the column of its pass, with the value that it found.
@@ -61,7 +48,7 @@ pub fn each_bar_shows_the_words()
 /// In a picture of an order that broke the protocol each step up to the refusal has the mark that it has in the picture
 /// of any schedule with these columns, and each row from the refused step on has one mark, its own.
 pub fn each_step_of_an_order_has_one_mark()
-    ensures { (size : Size) (d : WrongDrawn) (refusal : Refusal)
+    ensures { (size : Size) (d : Drawn) (refusal : FirstRefusal)
         → EachStepOfAnOrderHasOneMark size d refusal }
 {}
 
@@ -89,7 +76,7 @@ pub fn each_irp_has_its_place()
 {}
 
 /// Of every run, the pass whose column is shaded behind a step is the one that has the lock as it is made:
-/// whoever makes it, if it needs the lock, and else whoever has the lock before it.
+/// the pass that makes it, if it needs the lock, and otherwise the pass that has the lock before it.
 pub fn the_shaded_pass_has_the_lock()
     ensures { (size : Size) (W : List Numbered) → TheShadedPassHasTheLock size W }
 {}

@@ -18,11 +18,6 @@ pub(crate) struct PastLife {
 
 /// As `IRP 0 was completed by p3 in line 11, and used again`.
 impl fmt::Display for PastLife {
-    ghost use Rattle.std.specs.Prelude.{Some};
-    ghost use Rattle.csq_draw.specs.Lives.{past_text};
-
-    ghost output = { λ life. Some (past_text life) };
-
     fn fmt<W: fmt::Write>(&self, f: &mut fmt::Formatter<W>) -> fmt::Result {
         let PastLife { name, pass, line } = *self;
         write!(

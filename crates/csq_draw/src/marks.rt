@@ -1,6 +1,6 @@
 //! What is drawn on the row of a step: the number of its line, and the step itself; and who has the lock.
 ghost use Rattle.std.specs.Prelude.{◌≡◌};
-ghost use Rattle.csq_draw.specs.Marks.{shade_height, takes_lock, lets_go, claims, wdk_text};
+ghost use Rattle.csq_draw.specs.Marks.{takes_lock, lets_go};
 
 use crate::circles::Circles;
 use crate::layout::{left, top};
@@ -26,9 +26,7 @@ pub(crate) struct Shade {
 }
 
 /// How high the shade behind a row is, which may be the last of its time.
-fn shade_height(last: bool) -> u64
-    ensures { result ≡ shade_height last }
-{
+fn shade_height(last: bool) -> u64 {
     if last { 57 } else { 61 }
 }
 
@@ -38,11 +36,6 @@ struct LockLabel(Shade);
 
 /// That the pass has the lock, beside the first shade of that time.
 impl fmt::Display for LockLabel {
-    ghost use Rattle.std.specs.Prelude.{Some};
-    ghost use Rattle.csq_draw.specs.Marks.{lock_label};
-
-    ghost output = { λ label. Some (lock_label label.0) };
-
     fn fmt<W: fmt::Write>(&self, f: &mut fmt::Formatter<W>) -> fmt::Result {
         let Shade {
             row,
@@ -62,11 +55,6 @@ impl fmt::Display for LockLabel {
 }
 
 impl fmt::Display for Shade {
-    ghost use Rattle.std.specs.Prelude.{Some};
-    ghost use Rattle.csq_draw.specs.Marks.{shade_text};
-
-    ghost output = { λ shade. Some (shade_text shade) };
-
     fn fmt<W: fmt::Write>(&self, f: &mut fmt::Formatter<W>) -> fmt::Result {
         let (x, y) = (left(self.column), top(self.row));
         let (height, label) = (shade_height(self.last), LockLabel(*self));
@@ -100,9 +88,7 @@ pub(crate) fn lets_go(step: StepInCall) -> bool
 }
 
 /// Whether a step is an exchange that found the cancel routine, and so claims its IRP.
-pub(crate) fn claims(made: Made) -> bool
-    ensures { result ≡ claims made.kind made.found }
-{
+fn claims(made: Made) -> bool {
     match made.kind {
         Kind::Disarm(_) | Kind::Take(_) => made.found == 1,
         _ => false,
@@ -114,12 +100,6 @@ pub(crate) fn claims(made: Made) -> bool
 struct StepClass(Made);
 
 impl fmt::Display for StepClass {
-    ghost use Rattle.std.specs.Prelude.{Some};
-    ghost use Rattle.irp_core.specs.Steps.{name_of};
-    ghost use Rattle.csq_draw.specs.Marks.{step_class};
-
-    ghost output = { λ step. Some (step_class (claims step.0.kind step.0.found) (name_of step.0.kind)) };
-
     fn fmt<W: fmt::Write>(&self, f: &mut fmt::Formatter<W>) -> fmt::Result {
         match (claims(self.0), self.0.kind.name()) {
             (true, Some(name)) => write!(f, "c k{}", name.irp.0 % 8),
@@ -130,9 +110,7 @@ impl fmt::Display for StepClass {
 }
 
 /// The call of the WDK that a step of this kind is.
-fn wdk_call(kind: Kind) -> &'static str
-    ensures { result.now ≡ wdk_text kind }
-{
+fn wdk_call(kind: Kind) -> &'static str {
     match kind {
         Kind::Arm(_) | Kind::Rearm(_) => "IoSetCancelRoutine(Irp, routine)",
         Kind::Test(_) => "if (Irp->Cancel)",
@@ -145,20 +123,17 @@ fn wdk_call(kind: Kind) -> &'static str
     }
 }
 
-/// What a step found, in words.
+/// What a step found, beside these words of its IRP after it.
 #[derive(Clone, Copy)]
-struct FoundWords(StepInCall);
+pub(crate) struct FoundText(pub(crate) StepInCall, pub(crate) Option<WordValues>);
 
-/// As `found it`.
-impl fmt::Display for FoundWords {
-    ghost use Rattle.std.specs.Prelude.{Some};
-    ghost use Rattle.csq_draw.specs.Marks.{found_words};
-
-    ghost output = { λ reported. Some (found_words reported.0) };
-
-    #[tactic(auto, unfolding(crate::specs::Marks::found_by))]
+/// As `found it`; of a step of another life than the words', which finds nothing in them, that it is.
+impl fmt::Display for FoundText {
     fn fmt<W: fmt::Write>(&self, f: &mut fmt::Formatter<W>) -> fmt::Result {
-        let StepInCall { made, status, .. } = self.0;
+        let FoundText(StepInCall { made, status, .. }, words) = *self;
+        if words.is_none() && made.kind.name().is_some() {
+            return write!(f, "another life");
+        }
         match (made.kind, made.found != 0, status) {
             (Kind::Arm(_) | Kind::Rearm(_), false, _) => write!(f, "was none"),
             (Kind::Test(_), false, _) => write!(f, "is clear"),
@@ -175,27 +150,6 @@ impl fmt::Display for FoundWords {
     }
 }
 
-/// What a step found, beside these words.
-#[derive(Clone, Copy)]
-pub(crate) struct Finding(pub(crate) StepInCall, pub(crate) Option<WordValues>);
-
-/// As `found it`; of a step of another life than the words', which finds nothing in them, that it is.
-impl fmt::Display for Finding {
-    ghost use Rattle.std.specs.Prelude.{Some};
-    ghost use Rattle.csq_draw.specs.Marks.{finding};
-
-    ghost output = { λ reported. Some (finding reported.0 reported.1) };
-
-    fn fmt<W: fmt::Write>(&self, f: &mut fmt::Formatter<W>) -> fmt::Result {
-        let Finding(step, words) = *self;
-        if words.is_none() && step.made.kind.name().is_some() {
-            write!(f, "another life")
-        } else {
-            FoundWords(step).fmt(f)
-        }
-    }
-}
-
 /// How a step stands to the protocol.
 #[derive(Clone, Copy)]
 pub(crate) enum Legality {
@@ -203,26 +157,21 @@ pub(crate) enum Legality {
     Legal,
     /// It is the first one that the protocol refuses.
     Refused(StepRefused),
-    /// It comes behind a refused one.
-    Behind,
+    /// It comes after a refused one.
+    Later,
 }
 
 /// How a mark looks.
 #[derive(Clone, Copy)]
 struct MarkClass(Legality, StepInCall);
 
-/// Red if the protocol refuses the step; and behind that grey within the colour of its IRP, and bold if it claims it.
+/// Red if the protocol refuses the step; and after that grey within the colour of its IRP, and bold if it claims it.
 impl fmt::Display for MarkClass {
-    ghost use Rattle.std.specs.Prelude.{Some};
-    ghost use Rattle.csq_draw.specs.Marks.{mark_class};
-
-    ghost output = { λ class. Some (mark_class class.0 class.1) };
-
     fn fmt<W: fmt::Write>(&self, f: &mut fmt::Formatter<W>) -> fmt::Result {
         match self.0 {
             Legality::Legal => StepClass(self.1.made).fmt(f),
             Legality::Refused(_) => write!(f, "bad"),
-            Legality::Behind => {
+            Legality::Later => {
                 let class = StepClass(self.1.made);
                 write!(f, "d {class}")
             }
@@ -234,20 +183,15 @@ impl fmt::Display for MarkClass {
 #[derive(Clone, Copy)]
 struct MarkTitle(Legality, StepInCall);
 
-/// A sentence, or as `p2 done 0 refused NotHeld`. (Behind the refused step nothing is known of calls.)
+/// A sentence, or as `p2 done 0 refused NotHeld`. (After the refused step nothing is known of calls.)
 impl fmt::Display for MarkTitle {
-    ghost use Rattle.std.specs.Prelude.{Some};
-    ghost use Rattle.csq_draw.specs.Marks.{mark_title};
-
-    ghost output = { λ title. Some (mark_title title.0 title.1) };
-
     fn fmt<W: fmt::Write>(&self, f: &mut fmt::Formatter<W>) -> fmt::Result {
         let made = self.1.made;
         let (pass, kind) = (made.pass, made.kind);
         match self.0 {
             Legality::Legal => Sentence(self.1).fmt(f),
             Legality::Refused(cause) => write!(f, "{pass} {kind} refused {cause}"),
-            Legality::Behind => write!(f, "{pass} {kind}, behind the refused step"),
+            Legality::Later => write!(f, "{pass} {kind}, behind the refused step"),
         }
     }
 }
@@ -258,23 +202,18 @@ struct RefusalAt(u64, u64, Legality);
 
 /// Nothing if the step isn't the refused one.
 impl fmt::Display for RefusalAt {
-    ghost use Rattle.std.specs.Prelude.{Some};
-    ghost use Rattle.csq_draw.specs.Marks.{refusal_at};
-
-    ghost output = { λ refusal. Some (refusal_at refusal.0 refusal.1 refusal.2) };
-
     fn fmt<W: fmt::Write>(&self, f: &mut fmt::Formatter<W>) -> fmt::Result {
         let RefusalAt(x, y, legality) = *self;
         match legality {
             Legality::Refused(cause) => {
                 write!(f, "<text x='{x}' y='{y}'>not allowed: {cause}</text>")
             }
-            Legality::Legal | Legality::Behind => Ok(()),
+            Legality::Legal | Legality::Later => Ok(()),
         }
     }
 }
 
-/// A step in the column of its pass, with what it found and its call of the WDK, and right of so many columns, at
+/// A step in the column of its pass, with what it found and its call of the WDK, and right of all columns, at
 /// the place of its IRP, the words of the IRP after it.
 #[derive(Clone, Copy)]
 pub(crate) struct Mark {
@@ -288,15 +227,10 @@ pub(crate) struct Mark {
 }
 
 impl fmt::Display for Mark {
-    ghost use Rattle.std.specs.Prelude.{Some};
-    ghost use Rattle.csq_draw.specs.Marks.{mark_text};
-
-    ghost output = { λ mark. Some (mark_text mark) };
-
     fn fmt<W: fmt::Write>(&self, f: &mut fmt::Formatter<W>) -> fmt::Result {
         let (step, kind, legality) = (self.step, self.step.made.kind, self.legality);
         let (class, title) = (MarkClass(legality, step), MarkTitle(legality, step));
-        let found = Finding(step, self.words);
+        let found = FoundText(step, self.words);
         let (wdk, circles) = (wdk_call(kind), Circles(*self));
         let (left, top) = (left(self.column), top(self.row));
         let (x, y, end) = (left + 17, top + 20, left + 211);

@@ -1,13 +1,13 @@
 //! A picture, element by element.
-ghost use Rattle.std.specs.Prelude.{◌≡◌, ◌≤◌, ◌∷◌, [], codes, length, string_bytes, OnOk};
-ghost use Rattle.csq_replay.specs.Lines.{GrewBy};
-ghost use Rattle.csq_draw.specs.Elements.{elements_text, picture};
+ghost use Rattle.std.specs.Prelude.{◌≡◌, ◌≤◌, ◌∷◌, [], length, OnOk};
+ghost use Rattle.csq_draw.specs.Elements.{Drew};
 ghost use Rattle.csq_draw.specs.Passes.{columns};
 ghost use Rattle.csq_draw.specs.Pictures.{each, column_elements, word_elements, last_elements, span_elements, open_elements, owners_elements, past_elements, closing_elements, closed_elements, above_elements, shown_by, shown_elements, refused_elements, harm_elements, harms_elements, broken_elements, end_of, picture_of};
 
+use crate::canvas::Canvas;
 use crate::circles::WordColumns;
 use crate::element::Element;
-use crate::ending::{Below, Ending, Rest, count_with};
+use crate::ending::{Below, PictureEnd, RestState, count_with};
 use crate::heading::Column;
 use crate::irps::{IrpNow, irp_at, irp_column};
 use crate::lives::PastLife;
@@ -15,33 +15,25 @@ use crate::marks::Number;
 use crate::owners::Owner;
 use crate::passes::{column_of, columns};
 use crate::row_picture::{draw_bars, draw_rows};
-use crate::rows::{Row, count};
+use crate::rows::count;
+use crate::sheet::Sheet;
 use crate::spans::{LineEnd, Span};
 use csq_explain::{HarmAt, PassNow, Reason};
 use csq_replay::IrpLine;
 use irp_core::{IrpId, PassId};
 use std::alloc::{AllocError, Allocator};
 
-/// An element, on a line of its own.
-pub(crate) fn draw<A: Allocator>(element: Element, text: &mut String<A>) -> Result<(), AllocError>
-    ensures { OnOk result (GrewBy (string_bytes text.old) (string_bytes text.new)
-        (elements_text (element ∷ []))) }
-{
-    writeln!(text, "{element}")?;
-    Ok(())
-}
-
 /// The column of a pass, if it makes a step.
-fn draw_maker<A: Allocator>(
+fn draw_maker<C: Canvas>(
     passes: &[PassNow],
     rows: u32,
     pass: PassId,
     now: PassNow,
-    text: &mut String<A>,
+    out: &mut C,
 ) -> Result<(), AllocError>
     requires { length passes.now ≤ 65 }
-    ensures { OnOk result (GrewBy (string_bytes text.old) (string_bytes text.new)
-        (elements_text (column_elements passes.now rows pass.0 now))) }
+    ensures { OnOk result (Drew C.added (C.image out.old) (C.image out.new)
+        (column_elements passes.now rows pass.0 now)) }
 {
     if !now.makes {
         return Ok(());
@@ -51,73 +43,69 @@ fn draw_maker<A: Allocator>(
         pass,
         rows,
     };
-    draw(Element::Column(column), text)
+    out.draw(Element::Column(column))
 }
 
 /// The columns of the passes that make steps.
-fn draw_columns<A: Allocator>(
-    passes: &[PassNow],
-    rows: u32,
-    text: &mut String<A>,
-) -> Result<(), AllocError>
+fn draw_columns<C: Canvas>(passes: &[PassNow], rows: u32, out: &mut C) -> Result<(), AllocError>
     requires { length passes.now ≤ 65 }
-    ensures { OnOk result (GrewBy (string_bytes text.old) (string_bytes text.new)
-        (elements_text (each (column_elements passes.now rows) 0 passes.now))) }
+    ensures { OnOk result (Drew C.added (C.image out.old) (C.image out.new)
+        (each (column_elements passes.now rows) 0 passes.now)) }
 {
     for (number, now) in passes.iter().enumerate() {
-        draw_maker(passes, rows, PassId(number as u32), *now, text)?;
+        draw_maker(passes, rows, PassId(number as u32), *now, out)?;
     }
     Ok(())
 }
 
 /// The words that an IRP has in the end, if a step names it.
-fn draw_last_of<A: Allocator>(
+fn draw_last_of<C: Canvas>(
     passes: &[PassNow],
     irps: &[IrpNow],
     rows: u32,
     irp: IrpId,
     now: IrpNow,
-    text: &mut String<A>,
+    out: &mut C,
 ) -> Result<(), AllocError>
     requires few { length passes.now ≤ 65 }
     requires irps { length irps.now ≤ 1024 }
-    ensures { OnOk result (GrewBy (string_bytes text.old) (string_bytes text.new)
-        (elements_text (last_elements passes.now irps.now rows irp.0 now))) }
+    ensures { OnOk result (Drew C.added (C.image out.old) (C.image out.new)
+        (last_elements passes.now irps.now rows irp.0 now)) }
 {
     let (columns, place) = (columns(passes), irp_column(irps, irp));
-    draw_bars(columns, place, rows, true, now.last, text)
+    draw_bars(columns, place, rows, true, now.last, out)
 }
 
 /// The words that IRPs have in the end, of each that a step names.
-fn draw_last<A: Allocator>(
+fn draw_last<C: Canvas>(
     passes: &[PassNow],
     irps: &[IrpNow],
     rows: u32,
-    text: &mut String<A>,
+    out: &mut C,
 ) -> Result<(), AllocError>
     requires few { length passes.now ≤ 65 }
     requires irps { length irps.now ≤ 1024 }
-    ensures { OnOk result (GrewBy (string_bytes text.old) (string_bytes text.new)
-        (elements_text (each (last_elements passes.now irps.now rows) 0 irps.now))) }
+    ensures { OnOk result (Drew C.added (C.image out.old) (C.image out.new)
+        (each (last_elements passes.now irps.now rows) 0 irps.now)) }
 {
     for (number, now) in irps.iter().enumerate() {
-        draw_last_of(passes, irps, rows, IrpId(number as u32), *now, text)?;
+        draw_last_of(passes, irps, rows, IrpId(number as u32), *now, out)?;
     }
     Ok(())
 }
 
 /// The names of the words of an IRP, if a step names it.
-fn draw_name<A: Allocator>(
+fn draw_name<C: Canvas>(
     passes: &[PassNow],
     irps: &[IrpNow],
     irp: IrpId,
     now: IrpNow,
-    text: &mut String<A>,
+    out: &mut C,
 ) -> Result<(), AllocError>
     requires few { length passes.now ≤ 65 }
     requires irps { length irps.now ≤ 1024 }
-    ensures { OnOk result (GrewBy (string_bytes text.old) (string_bytes text.new)
-        (elements_text (word_elements passes.now irps.now irp.0 now))) }
+    ensures { OnOk result (Drew C.added (C.image out.old) (C.image out.new)
+        (word_elements passes.now irps.now irp.0 now)) }
 {
     if now.last.is_none() {
         return Ok(());
@@ -127,37 +115,33 @@ fn draw_name<A: Allocator>(
         place: irp_column(irps, irp),
         irp,
     };
-    draw(Element::WordColumns(names), text)
+    out.draw(Element::WordColumns(names))
 }
 
 /// The names of the words of all IRPs that a step names.
-fn draw_names<A: Allocator>(
-    passes: &[PassNow],
-    irps: &[IrpNow],
-    text: &mut String<A>,
-) -> Result<(), AllocError>
+fn draw_names<C: Canvas>(passes: &[PassNow], irps: &[IrpNow], out: &mut C) -> Result<(), AllocError>
     requires few { length passes.now ≤ 65 }
     requires irps { length irps.now ≤ 1024 }
-    ensures { OnOk result (GrewBy (string_bytes text.old) (string_bytes text.new)
-        (elements_text (each (word_elements passes.now irps.now) 0 irps.now))) }
+    ensures { OnOk result (Drew C.added (C.image out.old) (C.image out.new)
+        (each (word_elements passes.now irps.now) 0 irps.now)) }
 {
     for (number, now) in irps.iter().enumerate() {
-        draw_name(passes, irps, IrpId(number as u32), *now, text)?;
+        draw_name(passes, irps, IrpId(number as u32), *now, out)?;
     }
     Ok(())
 }
 
 /// The line of an owner to a row, if there is one that came to have its IRP on an earlier row.
-pub(crate) fn draw_line<A: Allocator>(
+pub(crate) fn draw_line<C: Canvas>(
     passes: &[PassNow],
     to: u32,
     end: LineEnd,
     owner: Option<Owner>,
-    text: &mut String<A>,
+    out: &mut C,
 ) -> Result<(), AllocError>
     requires { length passes.now ≤ 65 }
-    ensures { OnOk result (GrewBy (string_bytes text.old) (string_bytes text.new)
-        (elements_text (span_elements passes.now to end owner))) }
+    ensures { OnOk result (Drew C.added (C.image out.old) (C.image out.new)
+        (span_elements passes.now to end owner)) }
 {
     match owner {
         Some(owner) if owner.row < to => {
@@ -167,298 +151,256 @@ pub(crate) fn draw_line<A: Allocator>(
                 to,
                 end,
             };
-            draw(Element::Span(span), text)
+            out.draw(Element::Span(span))
         }
         _ => Ok(()),
     }
 }
 
 /// The lines of the owners that have their IRPs after all rows.
-fn draw_open_all<A: Allocator>(
+fn draw_open_all<C: Canvas>(
     passes: &[PassNow],
     to: u32,
     end: LineEnd,
     owners: &[Option<Owner>],
-    text: &mut String<A>,
+    out: &mut C,
 ) -> Result<(), AllocError>
     requires { length passes.now ≤ 65 }
-    ensures { OnOk result (GrewBy (string_bytes text.old) (string_bytes text.new)
-        (elements_text (each (open_elements passes.now to end) 0 owners.now))) }
+    ensures { OnOk result (Drew C.added (C.image out.old) (C.image out.new)
+        (each (open_elements passes.now to end) 0 owners.now)) }
 {
     for owner in owners {
-        draw_line(passes, to, end, *owner, text)?;
+        draw_line(passes, to, end, *owner, out)?;
     }
     Ok(())
 }
 
 /// The lines of the owners after all rows: they end where the protocol was broken, if it was.
-fn draw_owners<A: Allocator>(
-    sheet: Sheet<'_>,
-    count: u32,
-    text: &mut String<A>,
-) -> Result<(), AllocError>
+fn draw_owners<C: Canvas>(sheet: Sheet<'_>, count: u32, out: &mut C) -> Result<(), AllocError>
     requires { length sheet.passes.now ≤ 65 }
-    ensures { OnOk result (GrewBy (string_bytes text.old) (string_bytes text.new)
-        (elements_text (owners_elements sheet.entry.passes.now count sheet.entry.refused
-        sheet.entry.owners.now))) }
+    ensures { OnOk result (Drew C.added (C.image out.old) (C.image out.new)
+        (owners_elements sheet.entry.passes.now count sheet.entry.refused
+        sheet.entry.owners.now)) }
 {
     let (passes, owners) = (sheet.passes, sheet.owners);
     match sheet.refused {
-        Some(row) => draw_open_all(passes, row, LineEnd::Refusal, owners, text),
-        None => draw_open_all(passes, count, LineEnd::Last, owners, text),
+        Some(row) => draw_open_all(passes, row, LineEnd::Refusal, owners, out),
+        None => draw_open_all(passes, count, LineEnd::Last, owners, out),
     }
 }
 
 /// How an earlier life of an IRP ended, as the nth line below these rows.
-fn draw_past<A: Allocator>(
+fn draw_past<C: Canvas>(
     rows: u32,
     nth: usize,
     life: PastLife,
-    text: &mut String<A>,
+    out: &mut C,
 ) -> Result<(), AllocError>
-    ensures { OnOk result (GrewBy (string_bytes text.old) (string_bytes text.new)
-        (elements_text (past_elements rows nth life))) }
+    ensures { OnOk result (Drew C.added (C.image out.old) (C.image out.new)
+        (past_elements rows nth life)) }
 {
     let nth = count(nth)?;
-    draw(Element::Below(rows, Below::Past(nth, life)), text)
+    out.draw(Element::Below(rows, Below::Past(nth, life)))
 }
 
 /// How the earlier lives of IRPs ended.
-fn draw_lives<A: Allocator>(
-    rows: u32,
-    lives: &[PastLife],
-    text: &mut String<A>,
-) -> Result<(), AllocError>
-    ensures { OnOk result (GrewBy (string_bytes text.old) (string_bytes text.new)
-        (elements_text (each (past_elements rows) 0 lives.now))) }
+fn draw_lives<C: Canvas>(rows: u32, lives: &[PastLife], out: &mut C) -> Result<(), AllocError>
+    ensures { OnOk result (Drew C.added (C.image out.old) (C.image out.new)
+        (each (past_elements rows) 0 lives.now)) }
 {
     for (nth, life) in lives.iter().enumerate() {
-        draw_past(rows, nth, *life, text)?;
+        draw_past(rows, nth, *life, out)?;
     }
     Ok(())
 }
 
 /// Where an IRP is in the end, as the nth line after the first ones below these rows.
-fn draw_ending<A: Allocator>(
+fn draw_ending<C: Canvas>(
     irps: &[IrpNow],
     rows: u32,
     first: u32,
     nth: usize,
     line: IrpLine,
-    text: &mut String<A>,
+    out: &mut C,
 ) -> Result<(), AllocError>
-    ensures { OnOk result (GrewBy (string_bytes text.old) (string_bytes text.new)
-        (elements_text (closing_elements irps.now rows first nth line))) }
+    ensures { OnOk result (Drew C.added (C.image out.old) (C.image out.new)
+        (closing_elements irps.now rows first nth line)) }
 {
     let (nth, now) = (count_with(nth, first)?, irp_at(irps, line.name.irp));
-    draw(Element::Below(rows, Below::Irp(nth, line, now)), text)
+    out.draw(Element::Below(rows, Below::Irp(nth, line, now)))
 }
 
 /// Where each IRP is in the end, below this number of lines.
-fn draw_reported<A: Allocator>(
+fn draw_reported<C: Canvas>(
     irps: &[IrpNow],
     rows: u32,
     first: u32,
     reported: &[IrpLine],
-    text: &mut String<A>,
+    out: &mut C,
 ) -> Result<(), AllocError>
-    ensures { OnOk result (GrewBy (string_bytes text.old) (string_bytes text.new)
-        (elements_text (each (closing_elements irps.now rows first) 0 reported.now))) }
+    ensures { OnOk result (Drew C.added (C.image out.old) (C.image out.new)
+        (each (closing_elements irps.now rows first) 0 reported.now)) }
 {
     for (nth, line) in reported.iter().enumerate() {
-        draw_ending(irps, rows, first, nth, *line, text)?;
+        draw_ending(irps, rows, first, nth, *line, out)?;
     }
     Ok(())
 }
 
 /// How the earlier lives of IRPs ended, where each IRP is in the end, and whether all is at rest.
-fn draw_closed<A: Allocator>(
+fn draw_closed<C: Canvas>(
     irps: &[IrpNow],
     lives: &[PastLife],
     rows: u32,
     reported: &[IrpLine],
-    rest: Rest,
-    text: &mut String<A>,
+    rest: RestState,
+    out: &mut C,
 ) -> Result<(), AllocError>
-    ensures { OnOk result (GrewBy (string_bytes text.old) (string_bytes text.new)
-        (elements_text (closed_elements irps.now lives.now reported.now rest rows))) }
+    ensures { OnOk result (Drew C.added (C.image out.old) (C.image out.new)
+        (closed_elements irps.now lives.now reported.now rest rows)) }
 {
     let first = count(lives.len())?;
     let nth = count_with(reported.len(), first)?;
-    draw_lives(rows, lives, text)?;
-    draw_reported(irps, rows, first, reported, text)?;
-    draw(Element::Below(rows, Below::AtRest(nth, rest)), text)?;
+    draw_lives(rows, lives, out)?;
+    draw_reported(irps, rows, first, reported, out)?;
+    out.draw(Element::Below(rows, Below::AtRest(nth, rest)))?;
     Ok(())
 }
 
-/// What a picture shows: the passes, what is known of the IRPs after the rows, the rows, the owners of the IRPs after
-/// them, and the row of the first step that the protocol refuses.
-#[derive(Clone, Copy)]
-pub(crate) struct Sheet<'a> {
-    pub(crate) passes: &'a [PassNow],
-    pub(crate) irps: &'a [IrpNow],
-    pub(crate) rows: &'a [Row],
-    pub(crate) owners: &'a [Option<Owner>],
-    pub(crate) refused: Option<u32>,
-}
-
-/// What stands above so many rows of these passes and IRPs, and the words that are kept to the end.
-fn draw_above<A: Allocator>(
+/// What stands above this number of rows of these passes and IRPs, and the words that are kept to the end.
+fn draw_above<C: Canvas>(
     passes: &[PassNow],
     irps: &[IrpNow],
     count: u32,
-    text: &mut String<A>,
+    out: &mut C,
 ) -> Result<(), AllocError>
     requires few { length passes.now ≤ 65 }
     requires irps { length irps.now ≤ 1024 }
-    ensures { OnOk result (GrewBy (string_bytes text.old) (string_bytes text.new)
-        (elements_text (above_elements passes.now irps.now count))) }
+    ensures { OnOk result (Drew C.added (C.image out.old) (C.image out.new)
+        (above_elements passes.now irps.now count)) }
 {
-    draw(Element::Lines, text)?;
-    draw_columns(passes, count, text)?;
-    draw_names(passes, irps, text)?;
-    draw_last(passes, irps, count, text)?;
+    out.draw(Element::Lines)?;
+    draw_columns(passes, count, out)?;
+    draw_names(passes, irps, out)?;
+    draw_last(passes, irps, count, out)?;
     Ok(())
 }
 
 /// What a picture begins with, its rows, and the owners after them.
-fn draw_shown<A: Allocator + Copy>(
+fn draw_shown<A: Allocator + Copy, C: Canvas>(
     alloc: A,
     sheet: Sheet<'_>,
     count: u32,
-    text: &mut String<A>,
+    out: &mut C,
 ) -> Result<(), AllocError>
     requires few { length sheet.passes.now ≤ 65 }
     requires irps { length sheet.irps.now ≤ 1024 }
-    ensures { OnOk result (GrewBy (string_bytes text.old) (string_bytes text.new)
-        (elements_text (shown_elements (shown_by sheet.entry) count))) }
+    ensures { OnOk result (Drew C.added (C.image out.old) (C.image out.new)
+        (shown_elements (shown_by sheet.entry) count)) }
 {
-    draw_above(sheet.passes, sheet.irps, count, text)?;
-    draw_rows(alloc, sheet.passes, sheet.irps, sheet.rows, text)?;
-    draw_owners(sheet, count, text)?;
+    draw_above(sheet.passes, sheet.irps, count, out)?;
+    draw_rows(alloc, sheet.passes, sheet.irps, sheet.rows, out)?;
+    draw_owners(sheet, count, out)?;
     Ok(())
 }
 
 /// The line that ended the handling, and why.
-fn draw_refused<A: Allocator>(
+fn draw_refused<C: Canvas>(
     rows: u32,
     line: usize,
     reason: Reason,
-    text: &mut String<A>,
+    out: &mut C,
 ) -> Result<(), AllocError>
-    ensures { OnOk result (GrewBy (string_bytes text.old) (string_bytes text.new)
-        (elements_text (refused_elements rows line reason))) }
+    ensures { OnOk result (Drew C.added (C.image out.old) (C.image out.new)
+        (refused_elements rows line reason)) }
 {
     let row = rows;
-    draw(Element::Below(rows, Below::Bar), text)?;
-    draw(Element::Number(Number { row, line }), text)?;
-    draw(Element::Below(rows, Below::Refused(reason.stop)), text)?;
-    draw(Element::Below(rows, Below::Because(reason)), text)
+    out.draw(Element::Below(rows, Below::Bar))?;
+    out.draw(Element::Number(Number { row, line }))?;
+    out.draw(Element::Below(rows, Below::Refused(reason.stop)))?;
+    out.draw(Element::Below(rows, Below::Because(reason)))
 }
 
 /// What goes wrong at a step, as the nth line below where and why the protocol was broken.
-fn draw_harm<A: Allocator>(
-    rows: u32,
-    nth: usize,
-    harm: HarmAt,
-    text: &mut String<A>,
-) -> Result<(), AllocError>
-    ensures { OnOk result (GrewBy (string_bytes text.old) (string_bytes text.new)
-        (elements_text (harm_elements rows nth harm))) }
+fn draw_harm<C: Canvas>(rows: u32, nth: usize, harm: HarmAt, out: &mut C) -> Result<(), AllocError>
+    ensures { OnOk result (Drew C.added (C.image out.old) (C.image out.new)
+        (harm_elements rows nth harm)) }
 {
     let nth = count(nth)?;
-    draw(Element::Below(rows, Below::Harm(nth, harm)), text)
+    out.draw(Element::Below(rows, Below::Harm(nth, harm)))
 }
 
 /// What goes wrong at each step, below where and why the protocol was broken.
-fn draw_each_harm<A: Allocator>(
-    rows: u32,
-    harms: &[HarmAt],
-    text: &mut String<A>,
-) -> Result<(), AllocError>
-    ensures { OnOk result (GrewBy (string_bytes text.old) (string_bytes text.new)
-        (elements_text (each (harm_elements rows) 0 harms.now))) }
+fn draw_each_harm<C: Canvas>(rows: u32, harms: &[HarmAt], out: &mut C) -> Result<(), AllocError>
+    ensures { OnOk result (Drew C.added (C.image out.old) (C.image out.new)
+        (each (harm_elements rows) 0 harms.now)) }
 {
     for (nth, harm) in harms.iter().enumerate() {
-        draw_harm(rows, nth, *harm, text)?;
+        draw_harm(rows, nth, *harm, out)?;
     }
     Ok(())
 }
 
 /// What goes wrong at each step, or that nothing does.
-fn draw_harms<A: Allocator>(
-    rows: u32,
-    harms: &[HarmAt],
-    text: &mut String<A>,
-) -> Result<(), AllocError>
-    ensures { OnOk result (GrewBy (string_bytes text.old) (string_bytes text.new)
-        (elements_text (harms_elements rows harms.now))) }
+fn draw_harms<C: Canvas>(rows: u32, harms: &[HarmAt], out: &mut C) -> Result<(), AllocError>
+    ensures { OnOk result (Drew C.added (C.image out.old) (C.image out.new)
+        (harms_elements rows harms.now)) }
 {
     if harms.is_empty() {
-        draw(Element::Below(rows, Below::NoHarm), text)
+        out.draw(Element::Below(rows, Below::NoHarm))
     } else {
-        draw_each_harm(rows, harms, text)
+        draw_each_harm(rows, harms, out)
     }
 }
 
 /// The line in which the protocol was broken, and what goes wrong.
-fn draw_broken<A: Allocator>(
+fn draw_broken<C: Canvas>(
     rows: u32,
     line: usize,
     reason: Reason,
     harms: &[HarmAt],
-    text: &mut String<A>,
+    out: &mut C,
 ) -> Result<(), AllocError>
-    ensures { OnOk result (GrewBy (string_bytes text.old) (string_bytes text.new)
-        (elements_text (broken_elements line reason harms.now rows))) }
+    ensures { OnOk result (Drew C.added (C.image out.old) (C.image out.new)
+        (broken_elements line reason harms.now rows)) }
 {
-    draw(Element::Below(rows, Below::Broken(line, reason)), text)?;
-    draw_harms(rows, harms, text)?;
+    out.draw(Element::Below(rows, Below::Broken(line, reason)))?;
+    draw_harms(rows, harms, out)?;
     Ok(())
 }
 
-/// The end of a picture.
-fn draw_foot<A: Allocator>(text: &mut String<A>) -> Result<(), AllocError>
-    ensures { OnOk result (GrewBy (string_bytes text.old) (string_bytes text.new)
-        (codes "</svg>\n")) }
-{
-    writeln!(text, "</svg>")?;
-    Ok(())
-}
-
-/// How a picture of so many rows ends.
-fn draw_end<A: Allocator>(
+/// How a picture of this number of rows ends.
+pub(crate) fn draw_end<C: Canvas>(
     rows: u32,
-    ending: Ending<'_>,
-    text: &mut String<A>,
+    ending: PictureEnd<'_>,
+    out: &mut C,
 ) -> Result<(), AllocError>
-    ensures { OnOk result (GrewBy (string_bytes text.old) (string_bytes text.new)
-        (elements_text ((end_of ending.entry).below rows))) }
+    ensures { OnOk result (Drew C.added (C.image out.old) (C.image out.new)
+        ((end_of ending.entry).below rows)) }
 {
     match ending {
-        Ending::Stopped(line, reason) => draw_refused(rows, line, reason, text),
-        Ending::Closed(irps, lives, reported, rest) => {
-            draw_closed(irps, lives, rows, reported, rest, text)
+        PictureEnd::Stopped(line, reason) => draw_refused(rows, line, reason, out),
+        PictureEnd::Closed(irps, lives, reported, rest) => {
+            draw_closed(irps, lives, rows, reported, rest, out)
         }
-        Ending::Broken(line, reason, harms) => draw_broken(rows, line, reason, harms, text),
+        PictureEnd::Broken(line, reason, harms) => draw_broken(rows, line, reason, harms, out),
     }
 }
 
-/// A picture of so many rows, below its head.
-pub(crate) fn draw_picture<A: Allocator + Copy>(
+/// A picture of this number of rows, below its head.
+pub(crate) fn draw_picture<A: Allocator + Copy, C: Canvas>(
     alloc: A,
     sheet: Sheet<'_>,
     rows: u32,
-    ending: Ending<'_>,
-    text: &mut String<A>,
+    ending: PictureEnd<'_>,
+    out: &mut C,
 ) -> Result<(), AllocError>
     requires few { length sheet.passes.now ≤ 65 }
     requires irps { length sheet.irps.now ≤ 1024 }
-    ensures { OnOk result (GrewBy (string_bytes text.old) (string_bytes text.new)
-        (picture (picture_of (shown_by sheet.entry) rows (end_of ending.entry)))) }
+    ensures { OnOk result (Drew C.added (C.image out.old) (C.image out.new)
+        (picture_of (shown_by sheet.entry) rows (end_of ending.entry))) }
 {
-    draw_shown(alloc, sheet, rows, text)?;
-    draw_end(rows, ending, text)?;
-    draw_foot(text)?;
+    draw_shown(alloc, sheet, rows, out)?;
+    draw_end(rows, ending, out)?;
     Ok(())
 }

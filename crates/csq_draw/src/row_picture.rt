@@ -1,19 +1,19 @@
 //! The row of a step, element by element.
-ghost use Rattle.std.specs.Prelude.{◌≡◌, ◌≤◌, ◌∷◌, [], length, string_bytes, OnOk};
-ghost use Rattle.csq_replay.specs.Lines.{GrewBy};
+ghost use Rattle.std.specs.Prelude.{◌≡◌, ◌≤◌, ◌∷◌, [], length, OnOk};
 ghost use Rattle.csq_draw.specs.Arrows.{found_at};
-ghost use Rattle.csq_draw.specs.Elements.{elements_text};
+ghost use Rattle.csq_draw.specs.Elements.{Drew};
 ghost use Rattle.csq_draw.specs.Irps.{irp_named, with_irp};
 ghost use Rattle.csq_draw.specs.Pictures.{shade_elements, bars_elements, arrow_elements, words_until, place_named, number_element, mark_element, call_elements, behind_elements, row_after, fresh_irps, rows_elements};
 
 use crate::arrows::{Arrow, found_at};
 use crate::bars::Bars;
 use crate::calls::CallLine;
+use crate::canvas::Canvas;
 use crate::element::Element;
-use crate::irps::{IrpNow, Seen, Spot, irp_column, irp_named, new_irps, note_irp};
+use crate::irps::{IrpNow, LastSeen, Spot, irp_column, irp_named, new_irps, note_irp};
 use crate::marks::{Legality, Mark, Number, Shade, lets_go, takes_lock};
 use crate::passes::{column_of, columns};
-use crate::picture::{draw, draw_line};
+use crate::picture::draw_line;
 use crate::rows::Row;
 use crate::spans::LineEnd;
 use csq_explain::PassNow;
@@ -21,14 +21,10 @@ use irp_core::Kind;
 use std::alloc::{AllocError, Allocator};
 
 /// The shade behind a row, if a pass has the lock there.
-fn draw_shade<A: Allocator>(
-    passes: &[PassNow],
-    row: Row,
-    text: &mut String<A>,
-) -> Result<(), AllocError>
+fn draw_shade<C: Canvas>(passes: &[PassNow], row: Row, out: &mut C) -> Result<(), AllocError>
     requires { length passes.now ≤ 65 }
-    ensures { OnOk result (GrewBy (string_bytes text.old) (string_bytes text.new)
-        (elements_text (shade_elements passes.now row row.lock))) }
+    ensures { OnOk result (Drew C.added (C.image out.old) (C.image out.new)
+        (shade_elements passes.now row row.lock)) }
 {
     let Some(pass) = row.lock else {
         return Ok(());
@@ -39,22 +35,22 @@ fn draw_shade<A: Allocator>(
         first: takes_lock(row.step),
         last: lets_go(row.step),
     };
-    draw(Element::Shade(shade), text)
+    out.draw(Element::Shade(shade))
 }
 
 /// The words of the IRP at this place from its last step to a row, or to the end.
-pub(crate) fn draw_bars<A: Allocator>(
+pub(crate) fn draw_bars<C: Canvas>(
     columns: u32,
     place: u32,
     to: u32,
     to_the_end: bool,
-    last: Option<Seen>,
-    text: &mut String<A>,
+    last: Option<LastSeen>,
+    out: &mut C,
 ) -> Result<(), AllocError>
-    ensures { OnOk result (GrewBy (string_bytes text.old) (string_bytes text.new)
-        (elements_text (bars_elements columns place to to_the_end last))) }
+    ensures { OnOk result (Drew C.added (C.image out.old) (C.image out.new)
+        (bars_elements columns place to to_the_end last)) }
 {
-    let Some(Seen { row: from, words }) = last else {
+    let Some(LastSeen { row: from, words }) = last else {
         return Ok(());
     };
     let bars = Bars {
@@ -65,20 +61,20 @@ pub(crate) fn draw_bars<A: Allocator>(
         to_the_end,
         words,
     };
-    draw(Element::Bars(bars), text)
+    out.draw(Element::Bars(bars))
 }
 
 /// An arrow from the step that wrote what a row's step found, if it was another pass's.
 #[tactic(auto, unfolding(irp_core::specs::Steps::same_pass))]
-fn draw_arrow<A: Allocator>(
+fn draw_arrow<C: Canvas>(
     passes: &[PassNow],
     row: Row,
     found: Option<Spot>,
-    text: &mut String<A>,
+    out: &mut C,
 ) -> Result<(), AllocError>
     requires { length passes.now ≤ 65 }
-    ensures { OnOk result (GrewBy (string_bytes text.old) (string_bytes text.new)
-        (elements_text (arrow_elements passes.now row found))) }
+    ensures { OnOk result (Drew C.added (C.image out.old) (C.image out.new)
+        (arrow_elements passes.now row found)) }
 {
     let (pass, row, line) = (row.step.made.pass, row.row, row.line);
     match found {
@@ -90,7 +86,7 @@ fn draw_arrow<A: Allocator>(
                 row,
                 line,
             };
-            draw(Element::Arrow(arrow), text)
+            out.draw(Element::Arrow(arrow))
         }
         _ => Ok(()),
     }
@@ -108,83 +104,83 @@ fn place_named(irps: &[IrpNow], kind: Kind) -> u32
 }
 
 /// The words that the IRP of a step had until then.
-fn draw_words<A: Allocator>(
+fn draw_words<C: Canvas>(
     passes: &[PassNow],
     irps: &[IrpNow],
     before: IrpNow,
     row: Row,
-    text: &mut String<A>,
+    out: &mut C,
 ) -> Result<(), AllocError>
     requires few { length passes.now ≤ 65 }
     requires irps { length irps.now ≤ 1024 }
-    ensures { OnOk result (GrewBy (string_bytes text.old) (string_bytes text.new)
-        (elements_text (words_until passes.now irps.now before row))) }
+    ensures { OnOk result (Drew C.added (C.image out.old) (C.image out.new)
+        (words_until passes.now irps.now before row)) }
 {
     if row.words.is_none() {
         return Ok(());
     }
     let (columns, place) = (columns(passes), place_named(irps, row.step.made.kind));
-    draw_bars(columns, place, row.row, false, before.last, text)
+    draw_bars(columns, place, row.row, false, before.last, out)
 }
 
 /// Who wrote what a step found.
-fn draw_found<A: Allocator>(
+fn draw_found<C: Canvas>(
     passes: &[PassNow],
     before: IrpNow,
     row: Row,
-    text: &mut String<A>,
+    out: &mut C,
 ) -> Result<(), AllocError>
     requires { length passes.now ≤ 65 }
-    ensures { OnOk result (GrewBy (string_bytes text.old) (string_bytes text.new)
-        (elements_text (arrow_elements passes.now row (found_at before row)))) }
+    ensures { OnOk result (Drew C.added (C.image out.old) (C.image out.new)
+        (arrow_elements passes.now row (found_at before row))) }
 {
     let found = found_at(before, row);
-    draw_arrow(passes, row, found, text)
+    draw_arrow(passes, row, found, out)
 }
 
 /// What stands behind the box of a step, of whose IRP so much was known before.
-fn draw_behind<A: Allocator>(
+fn draw_behind<C: Canvas>(
     passes: &[PassNow],
     irps: &[IrpNow],
     before: IrpNow,
     row: Row,
-    text: &mut String<A>,
+    out: &mut C,
 ) -> Result<(), AllocError>
     requires few { length passes.now ≤ 65 }
     requires irps { length irps.now ≤ 1024 }
-    ensures { OnOk result (GrewBy (string_bytes text.old) (string_bytes text.new)
-        (elements_text (behind_elements passes.now irps.now before row))) }
+    ensures { OnOk result (Drew C.added (C.image out.old) (C.image out.new)
+        (behind_elements passes.now irps.now before row)) }
 {
-    draw_shade(passes, row, text)?;
-    draw_line(passes, row.row, LineEnd::Step, row.ended, text)?;
-    draw_words(passes, irps, before, row, text)?;
-    draw_found(passes, before, row, text)?;
+    draw_shade(passes, row, out)?;
+    draw_line(passes, row.row, LineEnd::Step, row.ended, out)?;
+    draw_words(passes, irps, before, row, out)?;
+    draw_found(passes, before, row, out)?;
     Ok(())
 }
 
 /// The number of the line that names a step.
-fn draw_number<A: Allocator>(row: Row, text: &mut String<A>) -> Result<(), AllocError>
-    ensures { OnOk result (GrewBy (string_bytes text.old) (string_bytes text.new)
-        (elements_text (number_element row ∷ []))) }
+fn draw_number<C: Canvas>(row: Row, out: &mut C) -> Result<(), AllocError>
+    ensures { OnOk result (Drew C.added (C.image out.old) (C.image out.new)
+        (number_element row ∷ [])) }
 {
     let number = Number {
         row: row.row,
         line: row.line,
     };
-    draw(Element::Number(number), text)
+    out.draw(Element::Number(number))
 }
 
 /// A step, in the column of its pass.
-fn draw_mark<A: Allocator>(
+fn draw_mark<C: Canvas>(
     passes: &[PassNow],
     irps: &[IrpNow],
     row: Row,
-    text: &mut String<A>,
+    out: &mut C,
 ) -> Result<(), AllocError>
     requires few { length passes.now ≤ 65 }
     requires irps { length irps.now ≤ 1024 }
-    ensures { OnOk result (GrewBy (string_bytes text.old) (string_bytes text.new)
-        (elements_text (mark_element passes.now irps.now row ∷ []))) }
+    ensures { OnOk result (Drew C.added (C.image out.old) (C.image out.new)
+        (mark_element passes.now irps.now row ∷ [])) }
 {
     let mark = Mark {
         row: row.row,
@@ -195,19 +191,19 @@ fn draw_mark<A: Allocator>(
         legality: row.legality,
         words: row.words,
     };
-    draw(Element::Mark(mark), text)
+    out.draw(Element::Mark(mark))
 }
 
 /// The call that a step is of, of whose IRP so much was known before. From a refusal on nothing is known of calls.
-fn draw_call<A: Allocator>(
+fn draw_call<C: Canvas>(
     passes: &[PassNow],
     before: IrpNow,
     row: Row,
-    text: &mut String<A>,
+    out: &mut C,
 ) -> Result<(), AllocError>
     requires { length passes.now ≤ 65 }
-    ensures { OnOk result (GrewBy (string_bytes text.old) (string_bytes text.new)
-        (elements_text (call_elements passes.now before row row.legality))) }
+    ensures { OnOk result (Drew C.added (C.image out.old) (C.image out.new)
+        (call_elements passes.now before row row.legality)) }
 {
     if !matches!(row.legality, Legality::Legal) {
         return Ok(());
@@ -218,44 +214,44 @@ fn draw_call<A: Allocator>(
         step: row.step,
         claim: before.claim,
     };
-    draw(Element::Call(call), text)
+    out.draw(Element::Call(call))
 }
 
 /// The row of a step, of whose IRP so much was known before.
-fn draw_row<A: Allocator>(
+fn draw_row<C: Canvas>(
     passes: &[PassNow],
     irps: &[IrpNow],
     before: IrpNow,
     row: Row,
-    text: &mut String<A>,
+    out: &mut C,
 ) -> Result<(), AllocError>
     requires few { length passes.now ≤ 65 }
     requires irps { length irps.now ≤ 1024 }
-    ensures { OnOk result (GrewBy (string_bytes text.old) (string_bytes text.new)
-        (elements_text (row_after passes.now irps.now before row))) }
+    ensures { OnOk result (Drew C.added (C.image out.old) (C.image out.new)
+        (row_after passes.now irps.now before row)) }
 {
-    draw_number(row, text)?;
-    draw_behind(passes, irps, before, row, text)?;
-    draw_mark(passes, irps, row, text)?;
-    draw_call(passes, before, row, text)?;
+    draw_number(row, out)?;
+    draw_behind(passes, irps, before, row, out)?;
+    draw_mark(passes, irps, row, out)?;
+    draw_call(passes, before, row, out)?;
     Ok(())
 }
 
 /// The row of the next step, before which so much was known of the IRPs.
-fn draw_next<A: Allocator>(
+fn draw_next<C: Canvas>(
     passes: &[PassNow],
     irps: &[IrpNow],
     known: &[IrpNow],
     row: Row,
-    text: &mut String<A>,
+    out: &mut C,
 ) -> Result<(), AllocError>
     requires few { length passes.now ≤ 65 }
     requires irps { length irps.now ≤ 1024 }
-    ensures { OnOk result (GrewBy (string_bytes text.old) (string_bytes text.new)
-        (elements_text (row_after passes.now irps.now (irp_named known.now row.step.made.kind) row))) }
+    ensures { OnOk result (Drew C.added (C.image out.old) (C.image out.new)
+        (row_after passes.now irps.now (irp_named known.now row.step.made.kind) row)) }
 {
     let before = irp_named(known, row.step.made.kind);
-    draw_row(passes, irps, before, row, text)
+    draw_row(passes, irps, before, row, out)
 }
 
 /// Notes the next step.
@@ -266,21 +262,21 @@ fn note_next<A: Allocator>(known: &mut Vec<IrpNow, A>, row: Row)
 }
 
 /// The rows of all steps. What is known of the IRPs grows with them.
-pub(crate) fn draw_rows<A: Allocator + Copy>(
+pub(crate) fn draw_rows<A: Allocator + Copy, C: Canvas>(
     alloc: A,
     passes: &[PassNow],
     irps: &[IrpNow],
     rows: &[Row],
-    text: &mut String<A>,
+    out: &mut C,
 ) -> Result<(), AllocError>
     requires few { length passes.now ≤ 65 }
     requires irps { length irps.now ≤ 1024 }
-    ensures { OnOk result (GrewBy (string_bytes text.old) (string_bytes text.new)
-        (elements_text (rows_elements passes.now irps.now (fresh_irps irps.now) rows.now))) }
+    ensures { OnOk result (Drew C.added (C.image out.old) (C.image out.new)
+        (rows_elements passes.now irps.now (fresh_irps irps.now) rows.now)) }
 {
     let mut known = new_irps(alloc, irps.len())?;
     for row in rows {
-        draw_next(passes, irps, &known, *row, text)?;
+        draw_next(passes, irps, &known, *row, out)?;
         note_next(&mut known, *row);
     }
     Ok(())

@@ -20,7 +20,7 @@ pub(crate) struct Row {
     pub(crate) words: Option<WordValues>,
 }
 
-/// How many there are, as a `u32`. No input has so many lines that their number isn't one.
+/// This number as a `u32`: no input has more lines than that.
 pub(crate) fn count(number: usize) -> Result<u32, AllocError>
     ensures counted { IfOk result (λ count. count ≡ number) }
     ensures refused { IfErr result (λ _. ¬ (number < 2 ^ 32)) }

@@ -1,15 +1,12 @@
 //! The lines that run down the column of a pass while it owes an IRP, or holds it.
-ghost use Rattle.std.specs.Prelude.{◌≡◌, ◌≤◌};
-ghost use Rattle.csq_draw.specs.Spans.{having_text, line_edge, line_end};
+ghost use Rattle.std.specs.Prelude.{◌≤◌};
 
 use crate::layout::{left, top};
 use crate::owners::{Having, Owner};
 use std::fmt;
 
 /// What a pass does with an IRP that it has.
-fn having_text(having: Having) -> &'static str
-    ensures { result.now ≡ having_text having }
-{
+fn having_text(having: Having) -> &'static str {
     match having {
         Having::Owes => "owes",
         Having::Holds => "holds",
@@ -29,8 +26,7 @@ pub(crate) enum LineEnd {
 
 /// How far below the upper edge of its last row a line ends.
 fn line_edge(end: LineEnd) -> u64
-    ensures edge { result ≡ line_edge end }
-    ensures bound { result ≤ 30 }
+    ensures { result ≤ 30 }
 {
     match end {
         LineEnd::Step => 30,
@@ -39,9 +35,7 @@ fn line_edge(end: LineEnd) -> u64
 }
 
 /// When a line ends whose end isn't that of the owner's time with the IRP.
-fn line_end(end: LineEnd) -> &'static str
-    ensures { result.now ≡ line_end end }
-{
+fn line_end(end: LineEnd) -> &'static str {
     match end {
         LineEnd::Step => "",
         LineEnd::Refusal => " up to the refused step",
@@ -59,11 +53,6 @@ pub(crate) struct Span {
 }
 
 impl fmt::Display for Span {
-    ghost use Rattle.std.specs.Prelude.{Some};
-    ghost use Rattle.csq_draw.specs.Spans.{span_text};
-
-    ghost output = { λ span. Some (span_text span) };
-
     fn fmt<W: fmt::Write>(&self, f: &mut fmt::Formatter<W>) -> fmt::Result {
         let owner = self.owner;
         let (name, pass, having) = (owner.name, owner.pass, having_text(owner.having));

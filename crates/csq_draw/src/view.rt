@@ -1,4 +1,4 @@
-//! In which form a schedule is drawn, and which of its steps.
+//! In which form a schedule is drawn, which of its steps, and how far.
 use irp_core::IrpId;
 
 /// What a schedule is drawn as. Own rule.
@@ -20,11 +20,14 @@ pub struct Window {
     pub irp: Option<IrpId>,
 }
 
-/// In which form a schedule is drawn, and which of its steps: all, if there is no window. Own rule.
+/// In which form a schedule is drawn, which of its steps, and how far. Own rule.
 #[derive(Clone, Copy, Debug, PartialEq, Eq)]
-pub struct View {
+pub struct PictureView {
     /// The form.
     pub format: Format,
-    /// Which steps.
+    /// Which steps: all, if there is no window.
     pub window: Option<Window>,
+    /// Whether the drawing goes on after a step that the protocol refuses, by the two words of each IRP alone. Otherwise
+    /// that step ends it.
+    pub wrong: bool,
 }

@@ -3,7 +3,7 @@ ghost use Rattle.std.specs.Prelude.{◌≡◌, ◌<◌};
 ghost use Rattle.irp_core.specs.MachineState.{size_of};
 ghost use Rattle.irp_core.specs.Runs.{OfIrp};
 ghost use Rattle.irp_core.specs.Steps.{number};
-ghost use Rattle.csq_draw.specs.Words.{routine_at, AreWordsNamed, changes_flag, changes_routine};
+ghost use Rattle.csq_draw.specs.Words.{routine_at, AreWordsNamed};
 
 use crate::owners::Owner;
 use csq_explain::WordValues;
@@ -41,9 +41,7 @@ pub(crate) fn words_named<A: Allocator>(
 }
 
 /// Whether a step changed the Cancel flag, or began it anew.
-pub(crate) fn changes_flag(kind: Kind, found: u64) -> bool
-    ensures { result ≡ changes_flag kind found }
-{
+pub(crate) fn changes_flag(kind: Kind, found: u64) -> bool {
     match kind {
         Kind::Flag(_) => found == 0,
         Kind::Renew(_) => true,
@@ -52,9 +50,7 @@ pub(crate) fn changes_flag(kind: Kind, found: u64) -> bool
 }
 
 /// Whether a step changed the cancel routine, or began it anew.
-pub(crate) fn changes_routine(kind: Kind, found: u64) -> bool
-    ensures { result ≡ changes_routine kind found }
-{
+pub(crate) fn changes_routine(kind: Kind, found: u64) -> bool {
     match kind {
         Kind::Arm(_) | Kind::Rearm(_) => found == 0,
         Kind::Disarm(_) | Kind::Take(_) => found == 1,

@@ -4,9 +4,10 @@ ghost use Rattle.irp_core.specs.Runs.{OfIrp};
 ghost use Rattle.irp_core.specs.Steps.{number};
 ghost use Rattle.csq_explain.specs.declared.line_steps.LineStep.{LineStep as LineStepOf};
 ghost use Rattle.csq_explain.specs.Orders.{irps_in, OrderStands};
-ghost use Rattle.csq_draw.specs.WrongRows.{words_in, words_by, wrong_row, with_maker, makers};
+ghost use Rattle.csq_draw.specs.WrongRows.{words_in, words_by, wrong_row, with_maker, makers, shown_makers};
 
 use crate::marks::Legality;
+use crate::refusals::FirstRefusal;
 use crate::rows::Row;
 use csq_explain::{LineStep, Order, PassNow, StepInCall, WordValues};
 use irp_core::{Inside, IrpLife, Kind, PassId};
@@ -83,16 +84,21 @@ fn note_makers(passes: &mut [PassNow], rows: &[Row])
     }
 }
 
-/// These passes, and that those of the rows make steps.
-pub(crate) fn makers<A: Allocator>(
+/// The passes of a picture, and which of them make steps: of an order that broke the protocol so, those of its rows too.
+pub(crate) fn shown_makers<A: Allocator>(
     alloc: A,
+    refusal: Option<FirstRefusal>,
     passes: &[PassNow],
     rows: &[Row],
 ) -> Result<Vec<PassNow, A>, AllocError>
-    ensures { IfOk result (λ found. found.items ≡ makers passes.now rows.now) }
+    ensures { IfOk result (λ found. found.items ≡ shown_makers refusal passes.now rows.now) }
 {
-    let mut makers = Vec::new(alloc);
-    makers.extend_from_slice(passes)?;
-    note_makers(&mut makers, rows);
-    Ok(makers)
+    let mut found = Vec::from_slice(alloc, passes)?;
+    match refusal {
+        Some(_) => {
+            note_makers(&mut found, rows);
+            Ok(found)
+        }
+        None => Ok(found),
+    }
 }

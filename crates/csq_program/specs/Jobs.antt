@@ -16,14 +16,14 @@ use Rattle.csq_program.specs.declared.source.Source.{Source, TheVariants.{Standa
 -- each number is in its range
 abbrev pub IsInRange : Job → Type 0
 IsInRange (Schedule source irps passes claims explain wrong) = IsInLimits (record { irps = irps; passes = passes; first = 0 })
-IsInRange (Draw source irps passes view to wrong) = IsInLimits (record { irps = irps; passes = passes; first = 0 }) × IsPart irps view.window to
+IsInRange (Draw source irps passes view to) = IsInLimits (record { irps = irps; passes = passes; first = 0 }) × IsPart irps view.window to
 IsInRange (Script source irps files limit file_limit list explain) = ((1 ≤ irps) × (irps ≤ 1024)) × ((1 ≤ files) × (files ≤ 256)) × IfSome limit (λ n. (1 ≤ n) × (n ≤ 1024)) × IfSome file_limit (λ n. (1 ≤ n) × (n ≤ 1024))
 IsInRange (Run plan list totals repeat) = IsPlan plan.irps plan.files plan.submitters plan.workers plan.cancellers plan.turns × AreBusyWorkers plan.submitters plan.workers plan.cancellers plan.busy_workers × ((1 ≤ repeat) × (repeat ≤ 1000))
 
 -- the command of this name, of which any but a picture's, a script's and a run's is a schedule's
 abbrev pub IsJobOf : List ℕ → Job → Type 0
 IsJobOf name (Schedule source irps passes claims explain wrong) = (name ≢ codes "draw") × (name ≢ codes "script") × (name ≢ codes "run")
-IsJobOf name (Draw source irps passes view to wrong) = name ≡ codes "draw"
+IsJobOf name (Draw source irps passes view to) = name ≡ codes "draw"
 IsJobOf name (Script source irps files limit file_limit list explain) = name ≡ codes "script"
 IsJobOf name (Run plan list totals repeat) = name ≡ codes "run"
 
@@ -36,7 +36,7 @@ pub record IsFlag (options : ArgMatches) (name : List ℕ) (flag : Bool) : Type 
 -- the job's flags, if it has some, are those of the options
 abbrev pub ReportsJobFlag : ArgMatches → Job → Type 0
 ReportsJobFlag options (Schedule source irps passes claims explain wrong) = IsFlag options (codes "claims") claims × IsFlag options (codes "explain") explain × IsFlag options (codes "wrong") wrong
-ReportsJobFlag options (Draw source irps passes view to wrong) = IsFlag options (codes "text") (is_text view.format) × IsFlag options (codes "wrong") wrong
+ReportsJobFlag options (Draw source irps passes view to) = IsFlag options (codes "text") (is_text view.format) × IsFlag options (codes "wrong") view.wrong
 ReportsJobFlag options (Script source irps files limit file_limit list explain) = IsFlag options (codes "chain") (is_chained list) × IsFlag options (codes "explain") explain
 ReportsJobFlag options (Run plan list totals repeat) = IsFlag options (codes "chain") (is_chained list) × IsFlag options (codes "totals") totals
 
@@ -48,7 +48,7 @@ IsSource options (File name) = (first_value (found_of options) (codes "file") �
 -- the job's source, if it has one, is that of the options
 abbrev pub ReportsSource : ArgMatches → Job → Type 0
 ReportsSource options (Schedule source irps passes claims explain wrong) = IsSource options source
-ReportsSource options (Draw source irps passes view to wrong) = IsSource options source
+ReportsSource options (Draw source irps passes view to) = IsSource options source
 ReportsSource options (Script source irps files limit file_limit list explain) = IsSource options source
 ReportsSource options (Run plan list totals repeat) = Unit {0}
 
@@ -120,7 +120,7 @@ RefusesOptions name options _ = ⊥
 -- the job's numbers are those of the options
 abbrev pub ReportsNumbers : ArgMatches → Job → Type 0
 ReportsNumbers options (Schedule source irps passes claims explain wrong) = IsNumberOption options (codes "irps") 1024 8 irps × IsNumberOption options (codes "passes") 64 4 passes
-ReportsNumbers options (Draw source irps passes view to wrong) = IsNumberOption options (codes "irps") 1024 8 irps × IsNumberOption options (codes "passes") 64 4 passes × IsGivenNumber options (codes "to") 1 1048577 to × IsWindow options view.window
+ReportsNumbers options (Draw source irps passes view to) = IsNumberOption options (codes "irps") 1024 8 irps × IsNumberOption options (codes "passes") 64 4 passes × IsGivenNumber options (codes "to") 1 1048577 to × IsWindow options view.window
 ReportsNumbers options (Script source irps files limit file_limit list explain) = IsNumberOption options (codes "irps") 1024 8 irps × IsNumberOption options (codes "files") 256 4 files × IsGivenNumber options (codes "limit") 1 1024 limit × IsGivenNumber options (codes "file-limit") 1 1024 file_limit
 ReportsNumbers options (Run plan list totals repeat) = ArePlanned options plan × IsNumberOption options (codes "repeat") 1000 1 repeat
 

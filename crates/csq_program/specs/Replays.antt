@@ -12,9 +12,8 @@ use Rattle.csq_replay.specs.Inputs.{ReadsInput}
 use Rattle.csq_explain.specs.Executions.{StopsFor}
 use Rattle.csq_explain.specs.Explaining.{IsScheduleText}
 use Rattle.csq_explain.specs.ExplainingCalls.{IsScriptText}
-use Rattle.csq_draw.specs.declared.view.View.{View}
-use Rattle.csq_draw.specs.Pictures.{IsDrawing}
-use Rattle.csq_draw.specs.WrongDrawings.{DrawsOrderClosing, DrawsOrderLine, new_wrong_drawn}
+use Rattle.csq_draw.specs.declared.view.PictureView.{PictureView}
+use Rattle.csq_draw.specs.Drawings.{DrawsClosing, DrawsLine, IsDrawing, new_drawn}
 use Rattle.csq_diagnose.specs.declared.diagnosed.Report.{Report}
 use Rattle.csq_diagnose.specs.Diagnoses.{IsScriptDiagnosis}
 use Rattle.csq_diagnose.specs.Reports.{IsReport, IsReportUntil}
@@ -47,22 +46,14 @@ IsReplayReport size claims explains false = IsScheduleReport size claims explain
 abbrev pub IsScriptReport : {A : Type 0} → Limits → Bool → List ℕ → Report A → Type 0
 IsScriptReport limits explains = IsReport (IsScriptText explains limits) IsScriptDiagnosis
 
--- a schedule is drawn so, with its diagnosis
-abbrev pub IsDrawingReport : {A : Type 0} → Size → View → List ℕ → Report A → Type 0
-IsDrawingReport size view = IsReport (IsDrawing size view) (IsScheduleDiagnosis size)
-
--- a schedule that may break the protocol is drawn so, with its diagnosis
-abbrev pub IsWrongDrawingReport : {A : Type 0} → Size → View → List ℕ → Report A → Type 0
-IsWrongDrawingReport size view = IsReportUntil (DrawsOrderLine size view) (λ d. StopsFor size d.own) (DrawsOrderClosing size view) ReportsReason new_wrong_drawn
+-- a schedule is drawn so in this view, with its diagnosis, which if the drawing ends at the first refused step is the schedule's
+pub record IsDrawnReport {A : Type 0} (size : Size) (view : PictureView) (input : List ℕ) (report : Report A) : Type 0 where
+  pub drawn : IsReportUntil (DrawsLine size view) (λ d. StopsFor size d.own) (DrawsClosing size view) ReportsReason new_drawn input report
+  pub kept : view.wrong ≡ false → IsReport (IsDrawing size view) (IsScheduleDiagnosis size) input report
 
 -- what is reported of an input up to the line that is named, if one is
 abbrev pub IsCutReport : {A : Type 0} → Option ℕ → (List ℕ → Report A → Type 0) → List ℕ → Report A → Type 0
 IsCutReport to is_report input = is_report (drawn_input to input)
-
--- a schedule is drawn, as one that may break the protocol or not, up to the line that is named
-abbrev pub IsDrawnReport : {A : Type 0} → Size → View → Option ℕ → Bool → List ℕ → Report A → Type 0
-IsDrawnReport size view to true = IsCutReport to (IsWrongDrawingReport size view)
-IsDrawnReport size view to false = IsCutReport to (IsDrawingReport size view)
 
 -- of a reader and a writer whose bytes are known: an input was read, this is its report, and the report's text was written
 abbrev pub AnswersInput : {A : Type 0} → (List ℕ → Report A → Type 0) → Option (List ℕ) → Option (List ℕ) → Option (List ℕ) → Option (List ℕ) → Report A → Type 0
@@ -102,6 +93,6 @@ WritesScript l explains held holds status = WritesReport (IsScriptReport (script
 -- of a writer whose bytes are known: a job's answer was written, and this is its status
 abbrev pub WritesJob : Job → Option (List ℕ) → Option (List ℕ) → ℕ → Type 0
 WritesJob (Schedule source irps passes claims explain wrong) held holds = WritesReport (IsReplayReport (record { irps = irps; passes = passes; first = 0 }) claims explain wrong) held holds
-WritesJob (Draw source irps passes view to wrong) held holds = WritesReport (IsDrawnReport (record { irps = irps; passes = passes; first = 0 }) view to wrong) held holds
+WritesJob (Draw source irps passes view to) held holds = WritesReport (IsCutReport to (IsDrawnReport (record { irps = irps; passes = passes; first = 0 }) view)) held holds
 WritesJob (Script source irps files limit file_limit list explain) held holds = WritesScript (limits_or_all irps files limit file_limit) explain held holds
 WritesJob (Run plan list totals repeat) held holds = λ status. WritesRuns plan totals repeat held holds × (status ≡ 0)

@@ -4,15 +4,17 @@ ghost use Rattle.std.specs.Io.KnownBytes.{Keeps};
 ghost use Rattle.irp_core.specs.Runs.{IsInLimits};
 ghost use Rattle.csq_list.specs.Listing.{IsFresh};
 ghost use Rattle.csq_words.specs.Queue.{limits_of};
+ghost use Rattle.csq_replay.specs.Schedule.{RepliesToSchedule};
+ghost use Rattle.csq_replay.specs.ScriptAnswer.{RepliesToScript};
 ghost use Rattle.csq_diagnose.specs.Schedules.{IsWrongReport};
 ghost use Rattle.csq_program.specs.Cuts.{drawn_input};
-ghost use Rattle.csq_program.specs.Replays.{AnswersInput, IsScheduleReport, IsScriptReport, IsDrawingReport, IsWrongDrawingReport, IsCutReport};
+ghost use Rattle.csq_program.specs.Replays.{AnswersInput, IsScheduleReport, IsScriptReport, IsDrawnReport, IsCutReport};
 
 use crate::cut::cut_input;
 use csq_diagnose::{Report, report_input, report_schedule, report_script, report_wrong_order};
-use csq_draw::{Drawing, View, WrongDrawing};
+use csq_draw::{Drawing, PictureView};
 use csq_list::PendingList;
-use csq_replay::{SimFault, read_input, write_answer};
+use csq_replay::{Ended, SimFault, read_input, write_answer};
 use std::alloc::{AllocError, Allocator};
 use std::io::{Read, Write};
 
@@ -23,7 +25,7 @@ use std::io::{Read, Write};
 ///
 /// All of the input is read, up to 1,048,577 bytes; more stays unread. `irps` is 1 to 1,024 and `passes` 1 to 64.
 /// Faults: 1 Memory and 2 Read, after which nothing was written; 3 Write. Own rule.
-pub fn answer_schedule<A: Allocator + Copy, R: Read, W: Write>(
+pub fn write_schedule<A: Allocator + Copy, R: Read, W: Write>(
     alloc: A,
     irps: u32,
     passes: u32,
@@ -46,8 +48,29 @@ pub fn answer_schedule<A: Allocator + Copy, R: Read, W: Write>(
     Ok(report)
 }
 
-/// Answers a schedule that may break the protocol, as `answer_schedule` does, by csq_explain's `WrongOrder`.
-pub(crate) fn answer_wrong_order<A: Allocator + Copy, R: Read, W: Write>(
+/// Answers a schedule without sentences, as `write_schedule` does, and returns how its handling ended. Own rule.
+pub fn answer_schedule<A: Allocator + Copy, R: Read, W: Write>(
+    alloc: A,
+    irps: u32,
+    passes: u32,
+    claims: bool,
+    reader: &mut R,
+    writer: &mut W,
+) -> Result<Ended, SimFault>
+    requires { IsInLimits (record { irps = irps; passes = passes; first = 0 }) }
+    ensures answered { IfOk result
+        (RepliesToSchedule (record { irps = irps; passes = passes; first = 0 }) claims
+        (R.remaining reader.old) (R.remaining reader.new)
+        (W.contents writer.old) (W.contents writer.new)) }
+    ensures unwritten { IfErr result (λ fault. fault ≢ SimFault.Write
+        → Keeps (W.contents writer.old) (W.contents writer.new)) }
+{
+    let report = write_schedule(alloc, irps, passes, claims, false, reader, writer)?;
+    Ok(report.ended)
+}
+
+/// Answers a schedule that may break the protocol, as `write_schedule` does, by csq_explain's `WrongOrder`.
+pub(crate) fn write_wrong_order<A: Allocator + Copy, R: Read, W: Write>(
     alloc: A,
     irps: u32,
     passes: u32,
@@ -73,51 +96,32 @@ fn report_drawing<A: Allocator + Copy>(
     alloc: A,
     irps: u32,
     passes: u32,
-    view: View,
+    view: PictureView,
     to: Option<u32>,
     input: &[u8],
 ) -> Result<Report<A>, AllocError>
     requires { IsInLimits (record { irps = irps; passes = passes; first = 0 }) }
-    ensures { IfOk result
-        (IsDrawingReport (record { irps = irps; passes = passes; first = 0 }) view
+    ensures { IfOk result (IsDrawnReport (record { irps = irps; passes = passes; first = 0 }) view
         (drawn_input to input.now)) }
 {
     let mut drawing = Drawing::new(alloc, irps, passes, view)?;
     report_input(alloc, &mut drawing, cut_input(input, to))
 }
 
-/// Draws a schedule that may break the protocol up to the line that is named, and diagnoses it.
-fn report_wrong_drawing<A: Allocator + Copy>(
-    alloc: A,
-    irps: u32,
-    passes: u32,
-    view: View,
-    to: Option<u32>,
-    input: &[u8],
-) -> Result<Report<A>, AllocError>
-    requires { IsInLimits (record { irps = irps; passes = passes; first = 0 }) }
-    ensures { IfOk result
-        (IsWrongDrawingReport (record { irps = irps; passes = passes; first = 0 }) view
-        (drawn_input to input.now)) }
-{
-    let mut drawing = WrongDrawing::new(alloc, irps, passes, view)?;
-    report_input(alloc, &mut drawing, cut_input(input, to))
-}
-
 /// Reads a schedule, and writes csq_draw's picture of its steps, up to the line that is named, if one is. It reads,
-/// returns and fails as `answer_schedule` does. Own rule.
-pub fn answer_drawing<A: Allocator + Copy, R: Read, W: Write>(
+/// returns and fails as `write_schedule` does. Own rule.
+pub fn write_drawing<A: Allocator + Copy, R: Read, W: Write>(
     alloc: A,
     irps: u32,
     passes: u32,
-    view: View,
+    view: PictureView,
     to: Option<u32>,
     reader: &mut R,
     writer: &mut W,
 ) -> Result<Report<A>, SimFault>
     requires { IsInLimits (record { irps = irps; passes = passes; first = 0 }) }
     ensures answered { IfOk result (AnswersInput (IsCutReport to
-        (IsDrawingReport (record { irps = irps; passes = passes; first = 0 }) view))
+        (IsDrawnReport (record { irps = irps; passes = passes; first = 0 }) view))
         (R.remaining reader.old) (R.remaining reader.new)
         (W.contents writer.old) (W.contents writer.new)) }
     ensures unwritten { IfErr result (λ fault. fault ≢ SimFault.Write
@@ -129,37 +133,13 @@ pub fn answer_drawing<A: Allocator + Copy, R: Read, W: Write>(
     Ok(report)
 }
 
-/// Draws a schedule that may break the protocol, as `answer_drawing` does.
-pub(crate) fn answer_wrong_drawing<A: Allocator + Copy, R: Read, W: Write>(
-    alloc: A,
-    irps: u32,
-    passes: u32,
-    view: View,
-    to: Option<u32>,
-    reader: &mut R,
-    writer: &mut W,
-) -> Result<Report<A>, SimFault>
-    requires { IsInLimits (record { irps = irps; passes = passes; first = 0 }) }
-    ensures answered { IfOk result (AnswersInput (IsCutReport to
-        (IsWrongDrawingReport (record { irps = irps; passes = passes; first = 0 }) view))
-        (R.remaining reader.old) (R.remaining reader.new)
-        (W.contents writer.old) (W.contents writer.new)) }
-    ensures unwritten { IfErr result (λ fault. fault ≢ SimFault.Write
-        → Keeps (W.contents writer.old) (W.contents writer.new)) }
-{
-    let input = read_input(alloc, reader)?;
-    let report = report_wrong_drawing(alloc, irps, passes, view, to, &input)?;
-    write_answer(writer, report.text.as_bytes())?;
-    Ok(report)
-}
-
 /// Reads a script, makes its calls as one pass over a machine and this list, and writes what each is answered, and
 /// then what is listed, held and owed; with `explains` a sentence after each line. Returns what was written, how the
 /// handling ended, and which line ended it and why.
 ///
 /// All of the input is read, up to 1,048,577 bytes; more stays unread. The list is fresh and has 1 to 1,024 IRPs.
 /// Faults: 1 Memory and 2 Read, after which nothing was written; 3 Write. Own rule.
-pub fn answer_script<L: PendingList + Drop, A: Allocator + Copy, R: Read, W: Write>(
+pub fn write_script<L: PendingList + Drop, A: Allocator + Copy, R: Read, W: Write>(
     alloc: A,
     list: L,
     explains: bool,
@@ -179,4 +159,23 @@ pub fn answer_script<L: PendingList + Drop, A: Allocator + Copy, R: Read, W: Wri
     let report = report_script(alloc, list, explains, &input)?;
     write_answer(writer, report.text.as_bytes())?;
     Ok(report)
+}
+
+/// Answers a script without sentences, as `write_script` does, and returns how its handling ended. Own rule.
+pub fn answer_script<L: PendingList + Drop, A: Allocator + Copy, R: Read, W: Write>(
+    alloc: A,
+    list: L,
+    reader: &mut R,
+    writer: &mut W,
+) -> Result<Ended, SimFault>
+    requires fresh { IsFresh (L.listing list) }
+    requires irps { (1 ≤ (L.listing list).irps) × ((L.listing list).irps ≤ 1024) }
+    ensures answered { IfOk result (RepliesToScript (limits_of 1 0 (L.listing list))
+        (R.remaining reader.old) (R.remaining reader.new)
+        (W.contents writer.old) (W.contents writer.new)) }
+    ensures unwritten { IfErr result (λ fault. fault ≢ SimFault.Write
+        → Keeps (W.contents writer.old) (W.contents writer.new)) }
+{
+    let report = write_script(alloc, list, false, reader, writer)?;
+    Ok(report.ended)
 }

@@ -11,7 +11,7 @@ use crate::source::Source;
 use clap::error::ErrorKind;
 use clap::{Arg, ArgAction, ArgMatches, Command, value_parser};
 use csq_device::Plan;
-use csq_draw::View;
+use csq_draw::PictureView;
 use csq_list::{ListKind, MAX_FILES};
 use irp_core::{MAX_IRPS, MAX_PASSES};
 use std::alloc::{AllocError, Global};
@@ -31,15 +31,13 @@ pub enum Job<'a> {
         explain: bool,
         wrong: bool,
     },
-    /// To draw a schedule over this many IRPs and passes, so much of it and in this format, as if it ended behind
-    /// line `to` if one is named; or to go on behind a step that the protocol refuses.
+    /// To draw a schedule over this many IRPs and passes in this view, as if it ended after line `to` if one is named.
     Draw {
         source: Source<'a>,
         irps: u32,
         passes: u32,
-        view: View,
+        view: PictureView,
         to: Option<u32>,
-        wrong: bool,
     },
     /// To make the calls of a script over this many IRPs and file objects, of which `limit` IRPs may
     /// be listed at a time, and `file_limit` for each file object: all, if none is given. The list is

@@ -9,7 +9,7 @@ use crate::command::{
 };
 use crate::help::{DRAW_ABOUT, DRAW_HELP};
 use clap::{ArgMatches, Command};
-use csq_draw::{Format, View, Window};
+use csq_draw::{Format, PictureView, Window};
 use irp_core::{IrpId, MAX_IRPS};
 use std::alloc::{AllocError, Global};
 use std::error::Error;
@@ -192,11 +192,11 @@ pub(crate) fn draw_job<'a>(options: &ArgMatches<'a>) -> Result<Job<'a>, CommandF
         source: source_in(options),
         irps,
         passes,
-        view: View {
+        view: PictureView {
             format: format_in(options),
             window: window_of(from, irp),
+            wrong: options.get_flag("wrong"),
         },
         to,
-        wrong: options.get_flag("wrong"),
     })
 }

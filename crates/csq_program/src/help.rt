@@ -147,11 +147,12 @@ end, who completed it in which line, or who owes or holds it since which line;
 and whether all is at rest.
 
 With --text it is drawn for a terminal, in ASCII letters but for the comment: a
-line for each step, with the pass that has the lock, in the column of its pass
-what it did, with a star before it if it claims its IRP, and the two words of
-the IRP after it. In a picture of several IRPs a column says whose words they
-are. Each pass takes 27 letters, the rest 26, or 32 with that column. The
-comment before the first step is above, and the sentences of the end are below.
+line for each step, which fits 80 columns however many passes there are, unless
+its numbers are long. It has the number of its line, the pass that has the lock
+or a hyphen, the pass that makes the step, what it did and found, whether that
+pass owes or holds the IRP from then on, and the IRP in its present life, with
+its Cancel flag and its cancel routine after the step. The comment before the
+first step is above, and the sentences of the end are below.
 
 With --wrong a refused step is drawn all the same, in red with its refusal, and
 the schedule goes on in grey by the two words of each IRP alone, as csqsim
@@ -160,8 +161,8 @@ IRP or a pass that there isn't still ends it.) Nothing is known then of calls,
 of the lock, and of who owes or holds an IRP. A step that names another life of
 an IRP than its present one finds nothing in the words, changes nothing, and
 shows none. The end says in which line the protocol was broken, why, and what
-goes wrong. With --text a ! stands before the refused step, and a ? before those
-behind it.
+goes wrong. With --text a ! stands in the place of the lock at the refused step,
+and a ? after it.
 
 A part of a long schedule is drawn with --from, --to and --irp. The steps of
 lines before that of --from are made, but not drawn. The schedule ends behind

@@ -16,7 +16,7 @@ mod stream;
 mod totals_text;
 mod visible;
 
-pub use answer::{answer_drawing, answer_schedule, answer_script};
+pub use answer::{answer_schedule, answer_script, write_drawing, write_schedule, write_script};
 pub use command::{CommandFault, Job, read_command, refuse_bytes};
 pub use device_run::{RunFault, answer_run};
 pub use draw_options::{CrossedLines, NoSuchIrp};

@@ -155,8 +155,7 @@ where
             passes,
             view,
             to,
-            wrong,
-        } => run_drawing(rt, source, irps, passes, view, to, wrong, writer),
+        } => run_drawing(rt, source, irps, passes, view, to, writer),
         Job::Script {
             source,
             irps,

@@ -6,16 +6,14 @@ ghost use Rattle.irp_core.specs.declared.refusals.SizeRefused.TheVariants.{BadSi
 ghost use Rattle.csq_list.specs.Listing.{IsFresh};
 ghost use Rattle.csq_words.specs.Queue.{limits_of};
 ghost use Rattle.csq_program.specs.declared.program.ProgramFault.TheVariants.{Replay};
-ghost use Rattle.csq_program.specs.Replays.{limits_or_all, IsWriteFault, IsReplayReport, IsDrawnReport, IsScriptReport, LeadsTo, WritesReport, WritesScript};
+ghost use Rattle.csq_program.specs.Replays.{limits_or_all, IsWriteFault, IsReplayReport, IsCutReport, IsDrawnReport, IsScriptReport, LeadsTo, WritesReport, WritesScript};
 
-use crate::answer::{
-    answer_drawing, answer_schedule, answer_script, answer_wrong_drawing, answer_wrong_order,
-};
+use crate::answer::{write_drawing, write_schedule, write_script, write_wrong_order};
 use crate::program::{ProgramFault, REFUSED};
 use crate::source::Source;
 use crate::stream::WithFault;
 use csq_diagnose::Report;
-use csq_draw::View;
+use csq_draw::PictureView;
 use csq_list::{AnyList, ListKind, PendingList};
 use csq_replay::{Ended, SimFault, exit_status};
 use irp_core::SizeRefused;
@@ -44,9 +42,9 @@ pub(crate) fn run_schedule<R: AllocGlobal + Eprint + Input + Files, W: Write>(
 {
     let mut reader = source.open(rt)?;
     let answered = if wrong {
-        answer_wrong_order(rt.alloc(), irps, passes, &mut reader, writer)
+        write_wrong_order(rt.alloc(), irps, passes, &mut reader, writer)
     } else {
-        answer_schedule(
+        write_schedule(
             rt.alloc(),
             irps,
             passes,
@@ -59,30 +57,25 @@ pub(crate) fn run_schedule<R: AllocGlobal + Eprint + Input + Files, W: Write>(
     finish(rt, source, answered, reader.fault, writer.fault)
 }
 
-/// Draws a schedule up to the line that is named, or as one that may break the protocol.
+/// Draws a schedule up to the line that is named.
 pub(crate) fn run_drawing<R: AllocGlobal + Eprint + Input + Files, W: Write>(
     rt: &R,
     source: Source<'_>,
     irps: u32,
     passes: u32,
-    view: View,
+    view: PictureView,
     to: Option<u32>,
-    wrong: bool,
     writer: &mut WithFault<W>,
 ) -> Result<u8, ProgramFault>
     requires { IsInLimits (record { irps = irps; passes = passes; first = 0 }) }
-    ensures answered { IfOk result (WritesReport (IsDrawnReport
-        (record { irps = irps; passes = passes; first = 0 }) view to wrong)
+    ensures answered { IfOk result (WritesReport (IsCutReport to
+        (IsDrawnReport (record { irps = irps; passes = passes; first = 0 }) view))
         (W.contents writer.old.stream) (W.contents writer.new.stream)) }
     ensures unwritten { IfErr result (λ fault. ¬ IsWriteFault fault
         → Keeps (W.contents writer.old.stream) (W.contents writer.new.stream)) }
 {
     let mut reader = source.open(rt)?;
-    let answered = if wrong {
-        answer_wrong_drawing(rt.alloc(), irps, passes, view, to, &mut reader, writer)
-    } else {
-        answer_drawing(rt.alloc(), irps, passes, view, to, &mut reader, writer)
-    };
+    let answered = write_drawing(rt.alloc(), irps, passes, view, to, &mut reader, writer);
     finish(rt, source, answered, reader.fault, writer.fault)
 }
 
@@ -243,7 +236,7 @@ fn run_list<L: PendingList + Drop, R: AllocGlobal + Eprint + Input + Files, W: W
         → Keeps (W.contents writer.old.stream) (W.contents writer.new.stream)) }
 {
     let mut reader = source.open(rt)?;
-    let answered = answer_script(rt.alloc(), list, explain, &mut reader, writer);
+    let answered = write_script(rt.alloc(), list, explain, &mut reader, writer);
     finish(rt, source, answered, reader.fault, writer.fault)
 }
 

@@ -1,8 +1,8 @@
 //! What is answered: the kinds of answers, and inputs with what comes of them.
 use csq_diagnose::Report;
-use csq_draw::{Format, View};
+use csq_draw::{Format, PictureView};
 use csq_list::{AnyList, ListKind};
-use csq_program::{answer_drawing, answer_schedule, answer_script};
+use csq_program::{answer_schedule, answer_script, write_drawing, write_schedule, write_script};
 use csq_replay::{Ended, SimFault};
 use std::alloc::{Allocator, Global};
 use std::io::{Read, Write};
@@ -130,9 +130,9 @@ line 3 refused LockHeld p1
         Ended::Stopped,
         true,
         "\
-line  lock   p1                         p3                        flag   routine
-1     p3                                end                       -      -
-2     p1     arm 7 was none                                       clear  set
+line  lock pass step          found            owner        IRP: flag routine
+1     p3   p3   end
+2     p1   p1   arm 7         was none                      7: clear set
 line 3: p3 arm 1 refused LockHeld p1
   p1 has had the lock since line 2, inside an insert; its next step is test 7
 ",
@@ -198,14 +198,15 @@ fn draw<A: Allocator + Copy, R: Read, W: Write>(
     reader: &mut R,
     writer: &mut W,
 ) -> Result<Report<A>, SimFault> {
-    let view = View {
+    let view = PictureView {
         format,
         window: None,
+        wrong: false,
     };
-    answer_drawing(alloc, 8, 4, view, None, reader, writer)
+    write_drawing(alloc, 8, 4, view, None, reader, writer)
 }
 
-/// Answers a schedule, or draws it.
+/// Answers a schedule with sentences, or draws it.
 fn answer_steps<A: Allocator + Copy, R: Read, W: Write>(
     alloc: A,
     asked: Asked,
@@ -215,26 +216,7 @@ fn answer_steps<A: Allocator + Copy, R: Read, W: Write>(
     match asked {
         Asked::Picture => draw(alloc, Format::Svg, reader, writer),
         Asked::PictureAsText => draw(alloc, Format::Text, reader, writer),
-        _ => {
-            let explains = asked == Asked::ExplainedSchedule;
-            answer_schedule(alloc, 8, 4, true, explains, reader, writer)
-        }
-    }
-}
-
-/// Answers a script over a list of this kind, whose memory is other memory.
-fn answer_calls<A: Allocator + Copy, R: Read, W: Write>(
-    alloc: A,
-    lists: Global,
-    kind: ListKind,
-    asked: Asked,
-    reader: &mut R,
-    writer: &mut W,
-) -> Result<Report<A>, SimFault> {
-    let explains = asked == Asked::ExplainedScript;
-    match AnyList::new(lists, kind, 8, 4, 8) {
-        Ok(list) => answer_script(alloc, list, explains, reader, writer),
-        Err(_) => Err(SimFault::Memory),
+        _ => write_schedule(alloc, 8, 4, true, true, reader, writer),
     }
 }
 
@@ -243,6 +225,27 @@ fn ended_of<A: Allocator>(answered: Result<Report<A>, SimFault>) -> Result<Ended
     match answered {
         Ok(report) => Ok(report.ended),
         Err(fault) => Err(fault),
+    }
+}
+
+/// Answers a script over a list of this kind, whose memory is other memory, with sentences or without.
+fn answer_calls<A: Allocator + Copy, R: Read, W: Write>(
+    alloc: A,
+    lists: Global,
+    kind: ListKind,
+    explains: bool,
+    reader: &mut R,
+    writer: &mut W,
+) -> Result<Ended, SimFault> {
+    match AnyList::new(lists, kind, 8, 4, 8) {
+        Ok(list) => {
+            if explains {
+                ended_of(write_script(alloc, list, true, reader, writer))
+            } else {
+                answer_script(alloc, list, reader, writer)
+            }
+        }
+        Err(_) => Err(SimFault::Memory),
     }
 }
 
@@ -255,11 +258,10 @@ pub(super) fn answer<A: Allocator + Copy, R: Read, W: Write>(
     reader: &mut R,
     writer: &mut W,
 ) -> Result<Ended, SimFault> {
-    let answered = match asked {
-        Asked::Script | Asked::ExplainedScript => {
-            answer_calls(alloc, lists, kind, asked, reader, writer)
-        }
-        _ => answer_steps(alloc, asked, reader, writer),
-    };
-    ended_of(answered)
+    match asked {
+        Asked::Schedule => answer_schedule(alloc, 8, 4, true, reader, writer),
+        Asked::Script => answer_calls(alloc, lists, kind, false, reader, writer),
+        Asked::ExplainedScript => answer_calls(alloc, lists, kind, true, reader, writer),
+        _ => ended_of(answer_steps(alloc, asked, reader, writer)),
+    }
 }

@@ -1,7 +1,7 @@
 use Rattle.std.proofs.Common.{◌++◌, ◌∷◌, []}
 use Rattle.csq_draw.proofs.Imports.{each, column_elements, word_elements, last_elements}
 use Rattle.csq_draw.specs.declared.element.Element.TheVariants.{Lines}
-use Rattle.csq_draw.proofs.Growing.{grew_elements}
+use Rattle.csq_draw.proofs.Growing.{drew_more}
 use Rattle.csq_draw.proofs.picture.draw_above.Goals as goal
 
 pub returns : goal.returns
@@ -12,6 +12,6 @@ returns g c =
     let named = each (column_elements passes count) 0 passes in
     let words = each (word_elements passes irps) 0 irps in
     let last = each (last_elements passes irps count) 0 irps in
-    grew_elements _ _ _ (Lines ∷ []) (named ++ (words ++ last)) c.in_ok-draw.ensures
-    (grew_elements _ _ _ named (words ++ last) c.in_ok-draw_columns.ensures
-    (grew_elements _ _ _ words last c.in_ok-draw_names.ensures c.in_ok-draw_last.ensures))
+    drew_more g.C.Canvas.added _ _ _ (Lines ∷ []) (named ++ (words ++ last)) c.in_ok-draw.ensures
+    (drew_more g.C.Canvas.added _ _ _ named (words ++ last) c.in_ok-draw_columns.ensures
+    (drew_more g.C.Canvas.added _ _ _ words last c.in_ok-draw_names.ensures c.in_ok-draw_last.ensures))

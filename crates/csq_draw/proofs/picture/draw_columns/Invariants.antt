@@ -1,7 +1,7 @@
-use Rattle.std.proofs.Common.{take, string_bytes}
-use Rattle.csq_draw.proofs.Imports.{GrewBy, elements_text, each, column_elements}
+use Rattle.std.proofs.Common.{take}
+use Rattle.csq_draw.proofs.Imports.{Drew, each, column_elements}
 use Rattle.csq_draw.proofs.picture.draw_columns.Given as goal
 
 -- the elements of those so far were added
 abbrev pub invariant-loop-number : goal.invariant-loop-number
-invariant-loop-number g l = GrewBy (string_bytes l.fn.text) (string_bytes l.text) (elements_text (each (column_elements l.passes l.rows) 0 (take l.number l.passes)))
+invariant-loop-number g l = Drew g.C.Canvas.added (g.C.Canvas.image l.fn.out) (g.C.Canvas.image l.out) (each (column_elements l.passes l.rows) 0 (take l.number l.passes))

@@ -1,22 +1,9 @@
-use Rattle.std.proofs.Common.{ℕ, Bool, true, false, List, ap}
-use Rattle.std.specs.Global.{Global}
 use Rattle.irp_core.specs.Runs.{Size}
-use Rattle.csq_diagnose.specs.declared.diagnosed.Report.{Report}
-use Rattle.csq_program.specs.Replays.{IsDrawnReport}
-use Rattle.csq_program.proofs.Endings.{ended_by}
-use Rattle.csq_program.proofs.replay.run_drawing.Goals.{then-wrong, else-wrong}
+use Rattle.csq_program.specs.Replays.{IsCutReport, IsDrawnReport}
+use Rattle.csq_program.proofs.Endings.{ended_reported}
 use Rattle.csq_program.proofs.replay.run_drawing.Goals as goal
 
 pub returns-clause-answered : goal.returns-clause-answered
 returns-clause-answered g c =
     let size : Size = record { irps = c.args.irps; passes = c.args.passes; first = 0 } in
-    let Reports : Bool → List ℕ → Report Global → Type 0 = IsDrawnReport size c.args.view c.args.to in
-    let contents = g.W.Write.contents in
-    elim c.if-wrong.branch [
-      | then-wrong w ↦
-          let answered = w.answer_wrong_drawing-answered in
-          ended_by Reports c.args.wrong true _ _ _ _ _ c.if-wrong.answered answered.result c.finish.result w.if-wrong.true (ap (λ writer. contents writer.stream) w.writer-is) w.answered-is answered.ensures.answered c.finish.ensures
-      | else-wrong w ↦
-          let answered = w.answer_drawing-answered in
-          ended_by Reports c.args.wrong false _ _ _ _ _ c.if-wrong.answered answered.result c.finish.result w.if-wrong.false (ap (λ writer. contents writer.stream) w.writer-is) w.answered-is answered.ensures.answered c.finish.ensures
-    ]
+    ended_reported (IsCutReport c.args.to (IsDrawnReport size c.args.view)) _ _ _ _ c.write_drawing-answered.result c.finish.result c.write_drawing-answered.ensures.answered c.finish.ensures

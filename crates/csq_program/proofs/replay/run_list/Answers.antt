@@ -5,4 +5,4 @@ use Rattle.csq_program.proofs.replay.run_list.Goals as goal
 
 pub returns-clause-answered : goal.returns-clause-answered
 returns-clause-answered g c =
-    ended_reported (IsScriptReport (limits_of 1 0 (g.L.PendingList.listing c.args.list)) c.args.explain) _ _ _ _ c.answer_script-answered.result c.finish.result c.answer_script-answered.ensures.answered c.finish.ensures
+    ended_reported (IsScriptReport (limits_of 1 0 (g.L.PendingList.listing c.args.list)) c.args.explain) _ _ _ _ c.write_script-answered.result c.finish.result c.write_script-answered.ensures.answered c.finish.ensures

@@ -14,9 +14,9 @@ returns-clause-answered g c =
     let contents = g.W.Write.contents in
     elim c.if-wrong.branch [
       | then-wrong w ↦
-          let answered = w.answer_wrong_order-answered in
+          let answered = w.write_wrong_order-answered in
           ended_by Reports c.args.wrong true _ _ _ _ _ c.if-wrong.answered answered.result c.finish.result w.if-wrong.true (ap (λ writer. contents writer.stream) w.writer-is) w.answered-is answered.ensures.answered c.finish.ensures
       | else-wrong w ↦
-          let answered = w.answer_schedule-answered in
+          let answered = w.write_schedule-answered in
           ended_by Reports c.args.wrong false _ _ _ _ _ c.if-wrong.answered answered.result c.finish.result w.if-wrong.false (ap (λ writer. contents writer.stream) w.writer-is) w.answered-is answered.ensures.answered c.finish.ensures
     ]
