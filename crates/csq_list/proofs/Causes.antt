@@ -1,7 +1,7 @@
 -- What an insert met that no cause refuses.
-use Rattle.std.proofs.Common.{◌≡◌, ◌<◌, Bool, true, false, cond, not, ◌&&◌, List, [], ◌∷◌, length, Some, None, refl, sym, ap, ◌∙◌, arith}
+use Rattle.std.proofs.Common.{◌≡◌, ◌<◌, Bool, false, cond, not, ◌&&◌, List, [], ◌∷◌, length, Some, None, refl, sym, ap, ◌∙◌, arith}
 use borrow.Author.Tests.{leb-false, eqb-false}
-use Rattle.csq_list.proofs.Imports.{find, AllByRecursion, lt-leb, IrpId, FileId, same_id-refl, Entry, Place, Listing, IsSound, inserted, renewed}
+use Rattle.csq_list.proofs.Imports.{by_value, find, AllByRecursion, lt-leb, IrpId, FileId, same_id-refl, Entry, Place, Listing, IsSound, inserted, renewed}
 use Rattle.csq_list.specs.declared.refusals.InsertStatus.{InsertStatus}
 use Rattle.csq_list.specs.Causes.{causes, last_causes, of_each, is_cause, first_cause}
 use Rattle.csq_list.specs.declared.refusals.InsertStatus.TheVariants.{UnknownIrp, UnknownFile, NotHome, FileFull, Full}
@@ -10,11 +10,9 @@ use Rattle.csq_list.proofs.Keeping.{sound-inserted, unused-unlisted}
 -- where nothing is found, no element passes the test
 none_found : {X : Type 0} (test : X → Bool) (xs : List X) → find test xs ≡ None → AllByRecursion (λ x. test x ≡ false) xs
 none_found test [] h = tt
-none_found {X} test (x ∷ xs) h = by_case (test x) refl (none_found test xs)
-  where
-    by_case : (b : Bool) → test x ≡ b → (find test xs ≡ None → AllByRecursion (λ (y : X). test y ≡ false) xs) → (test x ≡ false) × AllByRecursion (λ (y : X). test y ≡ false) xs
-    by_case true e rest = let t = ap (λ b. cond b (Some x) (find test xs)) e in absurd (cc)
-    by_case false e rest = (e, rest (sym (ap (λ b. cond b (Some x) (find test xs)) e) ∙ h))
+none_found {X} test (x ∷ xs) h = by_value (λ b. (find test xs ≡ None → AllByRecursion (λ (y : X). test y ≡ false) xs) → (test x ≡ false) × AllByRecursion (λ (y : X). test y ≡ false) xs) (test x)
+    (λ e rest. let t = ap (λ b. cond b (Some x) (find test xs)) e in absurd (cc))
+    (λ e rest. (e, rest (sym (ap (λ b. cond b (Some x) (find test xs)) e) ∙ h))) (none_found test xs)
 
 -- of an unused IRP, where both names are known, only the last causes may hold
 pub cause-known : (s : Listing) (i : IrpId) (f : FileId) → i.0 < s.irps → f.0 < s.files → s.used i ≡ false → first_cause s i f ≡ find (is_cause s i f) last_causes

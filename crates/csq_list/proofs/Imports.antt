@@ -14,6 +14,7 @@ pub use Rattle.csq_list.specs.declared.entry.Place.TheVariants.{Back, Front}
 pub use Rattle.csq_list.specs.declared.links.Chain.TheVariants.{Listed, OfFile}
 pub use Rattle.csq_list.specs.declared.links.Links.{Links}
 pub use Rattle.csq_list.specs.declared.links.Record.{Record}
+pub use Rattle.irp_core.proofs.ByTest.{by_test, by_value}
 pub use Rattle.irp_core.proofs.Names.{same_id-eq, same_id-ne, same_id-refl}
 unfoldable pub use Rattle.irp_core.specs.Steps.{same_id}
 pub use Rattle.irp_core.specs.declared.ids.FileId.{FileId}

@@ -20,6 +20,7 @@ pub adds_before : (l : Limits) (history : List HistoryEntry) (old mid out : Pass
 adds_before l history old mid out es i flag found e follows a = record {
   legal = a.legal;
   sees = a.sees;
+  pass = a.pass ∙ ap (λ (r : PassRecord). r.pass) e;
   follows = extended_on _ _ _ follows a.follows;
   begins = subst (λ (seen : List HistoryEntry). IsExtendedBy seen out.seen) (ap (λ (r : PassRecord). r.seen) e) a.begins;
   calls = a.calls ∙ ap (λ (r : PassRecord). (with_calls es r).mine) e;

@@ -1,6 +1,6 @@
 -- Once a file is closed, no event lists an IRP for it.
 use Rattle.std.proofs.Common.{◌≡◌, ℕ, suc, ◌≤◌, ◌<◌, ◌==◌, not, ◌&&◌, ◌||◌, cond, Bool, true, false, true≢false, List, [], ◌∷◌, ◌++◌, length, filter, Some, None, refl, sym, ap, ◌∙◌, subst, eqb-true, arith}
-use Rattle.csq_queue.proofs.Imports.{or_right, and_parts, same_irp, IrpLife, FileId, IrpId, same_irp-refl, same_some, Peek, File, Place, put_at, renewed, same_file, FileClosed, no_cause, HistoryEntry, Event, FlagSeen, Mark, Insert, RemoveNext, Remove, Out, CloseFile, Reuse, PutBack, Pending, Cancelled, Refused, IsLegal, MayCome, end_of, Queued, QueueState, Limits, present_in, has_irp, has_file, marking, without, first_unmarked, refusal, back_refusal, after_event, new_entry, plain_listing, none_head, none_both, none_marking}
+use Rattle.csq_queue.proofs.Imports.{by_test, by_value, or_right, and_parts, same_irp, IrpLife, FileId, IrpId, same_irp-refl, same_some, Peek, File, Place, put_at, renewed, same_file, FileClosed, no_cause, HistoryEntry, Event, FlagSeen, Mark, Insert, RemoveNext, Remove, Out, CloseFile, Reuse, PutBack, Pending, Cancelled, Refused, IsLegal, MayCome, end_of, Queued, QueueState, Limits, present_in, has_irp, has_file, marking, without, first_unmarked, refusal, back_refusal, after_event, new_entry, plain_listing, none_head, none_both, none_marking}
 use Rattle.csq_list.specs.declared.entry.Place.TheVariants.{Back, Front}
 use Rattle.csq_queue.proofs.Crowding.{pending_none}
 
@@ -35,26 +35,20 @@ same_closed fs f g e = let same : g ≡ f = (let n : g.0 ≡ f.0 = eqb-true g.0 
 
 -- what was just listed is of another file than a closed one
 other_file : (l : Limits) (q : QueueState) (n : IrpId) (g f : FileId) → refusal l q n g ≡ None → has_file q.closed f ≡ true → (g.0 == f.0) ≡ false
-other_file l q n g f accepted c = at (g.0 == f.0) refl
-  where
-    at : (b : Bool) → (g.0 == f.0) ≡ b → b ≡ false
-    at true e = absurd (true≢false (sym c ∙ (sym (same_closed q.closed f g e) ∙ no_cause (plain_listing l q) n g accepted FileClosed)))
-    at false e = refl
+other_file l q n g f accepted c = by_value (λ b. b ≡ false) (g.0 == f.0)
+    (λ e. absurd (true≢false (sym c ∙ (sym (same_closed q.closed f g e) ∙ no_cause (plain_listing l q) n g accepted FileClosed))))
+    (λ _. refl)
 
 other_again : (l : Limits) (q : QueueState) (i : IrpLife) (g f : FileId) → back_refusal l q i g ≡ None → has_file q.closed f ≡ true → (g.0 == f.0) ≡ false
-other_again l q i g f accepted c = at (g.0 == f.0) refl
-  where
-    at : (b : Bool) → (g.0 == f.0) ≡ b → b ≡ false
-    at true e = absurd (true≢false (sym c ∙ (sym (same_closed q.closed f g e) ∙ no_cause (renewed i.irp (plain_listing l q)) i.irp g accepted FileClosed)))
-    at false e = refl
+other_again l q i g f accepted c = by_value (λ b. b ≡ false) (g.0 == f.0)
+    (λ e. absurd (true≢false (sym c ∙ (sym (same_closed q.closed f g e) ∙ no_cause (renewed i.irp (plain_listing l q)) i.irp g accepted FileClosed))))
+    (λ _. refl)
 
 none_without : (k : Peek) (i : IrpLife) (es : List Queued) → first_unmarked k es ≡ None → first_unmarked k (without i es) ≡ None
 none_without k i [] h = refl
-none_without k i (e ∷ es) h = at (none_without k i es) (same_irp e.irp i) refl
-  where
-    at : (first_unmarked k es ≡ None → first_unmarked k (without i es) ≡ None) → (b : Bool) → same_irp e.irp i ≡ b → first_unmarked k (without i (e ∷ es)) ≡ None
-    at rest true t = rw t (rest (none_head k e es h).1)
-    at rest false t = rw (t, (none_head k e es h).0) (rest (none_head k e es h).1)
+none_without k i (e ∷ es) h = by_test (same_irp e.irp i)
+    (λ t. rw t (none_without k i es (none_head k e es h).1))
+    (λ t. rw (t, (none_head k e es h).0) (none_without k i es (none_head k e es h).1))
 
 none_put_at : (f g : FileId) (place : Place) (i : IrpLife) (es : List Queued) → (g.0 == f.0) ≡ false → first_unmarked (File f) es ≡ None → first_unmarked (File f) (put_at place (new_entry i g) es) ≡ None
 none_put_at f g Front i es d h = rw d h
@@ -86,14 +80,12 @@ module _ (f : FileId) where
   -- a mark changes no file
   count_marking : (i : IrpLife) (es : List Queued) → length (of_file f (marking i es)) ≡ length (of_file f es)
   count_marking i [] = refl
-  count_marking i (e ∷ es) = at (same_file e.file f) (count_marking i es)
+  count_marking i (e ∷ es) = by_value (λ b. length (cond b (x ∷ of_file f (marking i es)) (of_file f (marking i es))) ≡ length (cond b (e ∷ of_file f es) (of_file f es))) (same_file e.file f)
+      (λ _. ap (λ (m : ℕ). suc m) (count_marking i es))
+      (λ _. count_marking i es)
     where
       x : Queued
       x = record e { marked = same_irp e.irp i || e.marked }
-
-      at : (b : Bool) → length (of_file f (marking i es)) ≡ length (of_file f es) → length (cond b (x ∷ of_file f (marking i es)) (of_file f (marking i es))) ≡ length (cond b (e ∷ of_file f es) (of_file f es))
-      at true r = ap (λ (m : ℕ). suc m) r
-      at false r = r
 
   -- as an IRP leaves the list, no file gains an entry
   count_without : (i : IrpLife) (es : List Queued) → length (of_file f (without i es)) ≤ length (of_file f es)
@@ -109,29 +101,24 @@ module _ (f : FileId) where
   count_placed : (place : Place) (x : Queued) (es : List Queued) → same_file x.file f ≡ false → length (of_file f (put_at place x es)) ≡ length (of_file f es)
   count_placed Front x es h = rw h refl
   count_placed Back x [] h = rw h refl
-  count_placed Back x (e ∷ es) h = at (same_file e.file f) (count_placed Back x es h)
-    where
-      at : (b : Bool) → length (of_file f (put_at Back x es)) ≡ length (of_file f es) → length (cond b (e ∷ of_file f (put_at Back x es)) (of_file f (put_at Back x es))) ≡ length (cond b (e ∷ of_file f es) (of_file f es))
-      at true r = ap (λ (m : ℕ). suc m) r
-      at false r = r
+  count_placed Back x (e ∷ es) h = by_value (λ b. length (cond b (e ∷ of_file f (put_at Back x es)) (of_file f (put_at Back x es))) ≡ length (cond b (e ∷ of_file f es) (of_file f es))) (same_file e.file f)
+      (λ _. ap (λ (m : ℕ). suc m) (count_placed Back x es h))
+      (λ _. count_placed Back x es h)
 
   -- and where the first unmarked entry of the file leaves, the file has one fewer
   pub count_first : (i : IrpLife) (es : List Queued) → first_unmarked (File f) es ≡ Some i → length (of_file f (without i es)) < length (of_file f es)
   count_first i [] h = absurd (cc)
-  count_first i (e ∷ es) h = at (not e.marked && same_file e.file f) refl (count_first i es)
+  count_first i (e ∷ es) h = by_value (λ b. (first_unmarked (File f) es ≡ Some i → length (of_file f (without i es)) < length (of_file f es)) → length (of_file f (without i (e ∷ es))) < length (of_file f (e ∷ es))) (not e.marked && same_file e.file f)
+      (λ t r. let is : e.irp ≡ i = same_some e.irp i (sym (rw t refl) ∙ h) in
+      let fewer = count_without i es in
+      rw (is, same_irp-refl i, (and_parts (not e.marked) (same_file e.file f) t).1) (omega arith))
+      (λ t r. rest r (rw t at h) (same_irp e.irp i) (same_file e.file f) refl) (count_first i es)
     where
       rest : (first_unmarked (File f) es ≡ Some i → length (of_file f (without i es)) < length (of_file f es)) → first_unmarked (File f) es ≡ Some i → (a b : Bool) → same_file e.file f ≡ b → length (of_file f (cond (not a) (e ∷ without i es) (without i es))) < length (cond b (e ∷ of_file f es) (of_file f es))
       rest r h true true g = let s = r h in omega arith
       rest r h true false g = r h
       rest r h false true g = let s = r h in rw g (omega arith)
       rest r h false false g = rw g (r h)
-
-      at : (b : Bool) → (not e.marked && same_file e.file f) ≡ b → (first_unmarked (File f) es ≡ Some i → length (of_file f (without i es)) < length (of_file f es)) → length (of_file f (without i (e ∷ es))) < length (of_file f (e ∷ es))
-      at true t r =
-          let is : e.irp ≡ i = same_some e.irp i (sym (rw t refl) ∙ h) in
-          let fewer = count_without i es in
-          rw (is, same_irp-refl i, (and_parts (not e.marked) (same_file e.file f) t).1) (omega arith)
-      at false t r = rest r (rw t at h) (same_irp e.irp i) (same_file e.file f) refl
 
 -- a closed file gains no entry by an event
 count_after : (l : Limits) (q : QueueState) (e : Event) (f : FileId) → MayCome l q e → has_file q.closed f ≡ true → length (of_file f (after_event q e).entries) ≤ length (of_file f q.entries)

@@ -1,6 +1,6 @@
 -- In the queue of one thread that a legal history leaves no more is listed than there are IRPs.
 use Rattle.std.proofs.Common.{◌≡◌, ℕ, ◌<◌, ◌≤◌, ◌==◌, ◌||◌, not, Bool, true, false, true≢false, List, [], ◌∷◌, length, map, Option, Some, None, refl, sym, ap, ◌∙◌, subst, ◌⊎◌, inl, inr, eqb-true}
-use Rattle.csq_queue.proofs.Imports.{and_parts, or_cases, or_right, not-true, length-map, life_of, same_irp, same_id, IrpLife, FileId, IrpId, same_irp-eq, same_id-refl, Place, InsertStatus, NotHome, no_cause, sound-accepted, IsSound, inserted, renewed, is_listed, is_distinct, filter-none, unused-unlisted, sound-fresh, sound-removed, sound-renewed, HistoryEntry, Event, FlagSeen, Mark, Insert, RemoveNext, Remove, Out, CloseFile, Reuse, PutBack, Pending, Cancelled, Refused, irp_eq, IsLegal, IsGone, MayCome, end_of, Queued, QueueState, Limits, present_in, has_irp, has_file, has_entry, without, plain, new_entry, plain_listing, refusal, reply_to_insert, after_event, back_refusal, ArePresent, HasSoundLives, legal_lives, is_listed-plain, listing-inserted, listing-marked, listing-removed, listing-taken_back, listing-renewed, listing-put_back, has_life, AreApart}
+use Rattle.csq_queue.proofs.Imports.{by_test, by_value, and_parts, or_cases, or_right, not-true, length-map, life_of, same_irp, same_id, IrpLife, FileId, IrpId, same_irp-eq, same_id-refl, Place, InsertStatus, NotHome, no_cause, sound-accepted, IsSound, inserted, renewed, is_listed, is_distinct, filter-none, unused-unlisted, sound-fresh, sound-removed, sound-renewed, HistoryEntry, Event, FlagSeen, Mark, Insert, RemoveNext, Remove, Out, CloseFile, Reuse, PutBack, Pending, Cancelled, Refused, irp_eq, IsLegal, IsGone, MayCome, end_of, Queued, QueueState, Limits, present_in, has_irp, has_file, has_entry, without, plain, new_entry, plain_listing, refusal, reply_to_insert, after_event, back_refusal, ArePresent, HasSoundLives, legal_lives, is_listed-plain, listing-inserted, listing-marked, listing-removed, listing-taken_back, listing-renewed, listing-put_back, has_life, AreApart}
 use Rattle.csq_queue.proofs.Counting.{apart_most}
 
 -- an insert is pending, or finds its IRP cancelled, only where no cause refuses it
@@ -15,20 +15,16 @@ cancelled_none (Some cause) b h = absurd (cc)
 -- what is listed is of a present life
 listed_present : (lives : IrpId → ℕ) (i : IrpLife) (es : List Queued) → ArePresent lives es → has_entry es i ≡ true → life_of i ≡ lives i.irp
 listed_present lives i [] h e = absurd (true≢false (sym e))
-listed_present lives i (x ∷ es) h e = at (listed_present lives i es h.1) (same_irp x.irp i) refl e
-  where
-    at : (has_entry es i ≡ true → life_of i ≡ lives i.irp) → (b : Bool) → same_irp x.irp i ≡ b → (b || has_entry es i) ≡ true → life_of i ≡ lives i.irp
-    at rest true s e = subst (λ (j : IrpLife). life_of j ≡ lives j.irp) (same_irp-eq x.irp i s) h.0
-    at rest false s e = rest e
+listed_present lives i (x ∷ es) h e = by_value (λ b. (b || has_entry es i) ≡ true → life_of i ≡ lives i.irp) (same_irp x.irp i)
+    (λ s e. subst (λ (j : IrpLife). life_of j ≡ lives j.irp) (same_irp-eq x.irp i s) h.0)
+    (λ _ e. listed_present lives i es h.1 e) e
 
 module _ (l : Limits) (u : QueueState) (lives : HasSoundLives u) (sound : IsSound (plain_listing l u)) where
   -- the list stays sound as an IRP leaves it
   sound_without : (i : IrpLife) → IsSound (plain_listing l (record u { entries = without i u.entries }))
-  sound_without i = at (has_entry u.entries i) refl
-    where
-      at : (b : Bool) → has_entry u.entries i ≡ b → IsSound (plain_listing l (record u { entries = without i u.entries }))
-      at true e = subst IsSound (listing-removed l u i (listed_present u.lives i u.entries lives.entries e) lives.entries) (sound-removed (plain_listing l u) sound i.irp)
-      at false e = subst (λ (es : List Queued). IsSound (plain_listing l (record u { entries = es }))) (sym (filter-none (λ (x : Queued). same_irp x.irp i) u.entries e)) sound
+  sound_without i = by_test (has_entry u.entries i)
+      (λ e. subst IsSound (listing-removed l u i (listed_present u.lives i u.entries lives.entries e) lives.entries) (sound-removed (plain_listing l u) sound i.irp))
+      (λ e. subst (λ (es : List Queued). IsSound (plain_listing l (record u { entries = es }))) (sym (filter-none (λ (x : Queued). same_irp x.irp i) u.entries e)) sound)
 
   -- and as an IRP is listed
   module _ (n : IrpId) (f : FileId) (accepted : refusal l u n f ≡ None) (place : Place) where
@@ -76,7 +72,7 @@ module _ (l : Limits) (u : QueueState) (lives : HasSoundLives u) (sound : IsSoun
       at g (inr h) = sound.closed_known g h
   sound_event (Reuse n life) may = subst IsSound (listing-renewed l u n lives) (sound-renewed (plain_listing l u) sound n (is_listed-plain u.lives (present_in u n) refl u.entries lives.entries ∙ may.1))
 
-sound_later : (l : Limits) (h : List HistoryEntry) → IsLegal l h → IsSound (plain_listing l (end_of l.first h))
+pub sound_later : (l : Limits) (h : List HistoryEntry) → IsLegal l h → IsSound (plain_listing l (end_of l.first h))
 sound_later l [] legal = sound-fresh l.irps l.files l.limit l.file_limits
 sound_later l (e ∷ h) legal = sound_event l (end_of l.first h) (legal_lives l h legal.1) (sound_later l h legal.1) e.event legal.0
 

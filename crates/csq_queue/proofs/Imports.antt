@@ -41,6 +41,7 @@ pub use Rattle.csq_words.specs.declared.views.Event.TheVariants.{CloseFile, Flag
 pub use Rattle.csq_words.specs.declared.views.InsertReply.TheVariants.{Cancelled, Pending, Refused}
 pub use Rattle.csq_words.specs.declared.views.PassRecord.{PassRecord}
 pub use Rattle.csq_words.specs.declared.views.QueueRecord.{QueueRecord}
+pub use Rattle.irp_core.proofs.ByTest.{by_test, by_value}
 pub use Rattle.irp_core.proofs.Names.{same_id-eq, same_id-refl, same_irp-eq, same_irp-ne, same_irp-refl, same_pass-eq, same_pass-is, same_pass-not, same_some}
 pub use Rattle.irp_core.proofs.Own.{any_filtered, holds_in-own, owes_in-own, own-mine}
 pub use Rattle.irp_core.proofs.Owning.{done_gone, owed_not_held, removed_in-own, routine_gone}

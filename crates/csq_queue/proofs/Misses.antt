@@ -1,6 +1,6 @@
 -- The matches that a removal passes over.
 use Rattle.std.proofs.Common.{◌≡◌, ℕ, not, ◌&&◌, cond, Bool, true, false, true≢false, List, [], ◌∷◌, ◌++◌, map, Option, Some, None, refl, sym, ap, ◌∙◌, append_assoc, append-nil}
-use Rattle.csq_queue.proofs.Imports.{false_from_ne_true, or_parts, same_irp, IrpLife, PassId, same_irp-eq, Peek, matches, HistoryEntry, QueueRecord, Queued, has_marked, marking, first_unmarked, plain, end_of, queue_of, entries_of, with_events, none_head, same_irp-is, marked, gave, passed_over}
+use Rattle.csq_queue.proofs.Imports.{by_test, false_from_ne_true, or_parts, same_irp, IrpLife, PassId, same_irp-eq, Peek, matches, HistoryEntry, QueueRecord, Queued, has_marked, marking, first_unmarked, plain, end_of, queue_of, entries_of, with_events, none_head, same_irp-is, marked, gave, passed_over}
 use Rattle.csq_list.specs.Searches as list
 
 -- of a part in which nothing was given out all matches were passed over
@@ -52,11 +52,7 @@ passed-one k i e is m = ap (λ b. cond b (e.irp ∷ []) []) m ∙ ap (λ (j : Ir
 -- where nothing matches, nothing is passed over
 pub passed-none : (k : Peek) (es : List Queued) → list.first_match k (map plain es) ≡ None → passed_over k None es ≡ []
 passed-none k [] h = refl
-passed-none k (e ∷ es) h = at (passed-none k es) (matches k e.file) refl
-  where
-    at : (list.first_match k (map plain es) ≡ None → passed_over k None es ≡ []) → (b : Bool) → matches k e.file ≡ b → passed_over k None (e ∷ es) ≡ []
-    at rest true t = let s : Some e.irp.irp ≡ None = sym (rw t refl) ∙ h in absurd (cc)
-    at rest false t = rw t (rest (rw t at h))
+passed-none k (e ∷ es) h = by_test (matches k e.file) (λ t. let s : Some e.irp.irp ≡ None = sym (rw t refl) ∙ h in absurd (cc)) (λ t. rw t (passed-none k es (rw t at h)))
 
 -- a mark changes no match
 pub passed-marking : (k : Peek) (given : Option IrpLife) (i : IrpLife) (es : List Queued) → passed_over k given (marking i es) ≡ passed_over k given es

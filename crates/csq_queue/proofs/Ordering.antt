@@ -1,8 +1,8 @@
 -- The order of the calls follows from what each call's pass had seen before it.
-use Rattle.std.proofs.Common.{◌≡◌, ◌≢◌, ◌⊎◌, inl, inr, ℕ, Bool, ◌&&◌, List, [], ◌∷◌, ◌++◌, length, append_assoc, refl, sym, ap, ◌∙◌, subst}
+use Rattle.std.proofs.Common.{◌≡◌, ◌≢◌, ◌⊎◌, inl, inr, Bool, ◌&&◌, List, [], ◌∷◌, ◌++◌, length, append_assoc, refl, sym, ap, ◌∙◌, subst}
 use Rattle.csq_words.proofs.Traced.{steps_over}
 use Rattle.csq_queue.proofs.Imports.{Tick, steps_in, append_cancel_right, filter-append, own, same_pass, PassId, Made, HistoryEntry, Event, PassRecord, Limits, IsExtendedBy, is_call, calls_of, entries_of, extended_on, made_by}
-use Rattle.csq_words.specs.Recorded.{StandInOrder}
+use Rattle.csq_words.specs.Traces.{StandInOrder}
 use Rattle.csq_words.specs.Stories.{AreComparable}
 use Rattle.csq_words.proofs.OneHistory.{one_begins}
 use Rattle.csq_words.proofs.Placing.{own_entry, in_order}
@@ -17,7 +17,7 @@ module _ {limits : Limits} where
   found_in c = (entries c, c.adds.ends)
 
   -- in each history that goes on from what d left, the events of a call before it stand before its own
-  stands : (c d : LockedCall limits) → ComesBefore c d → (history : List HistoryEntry) → IsExtendedBy d.new.seen history → StandBefore history c d
+  pub stands : (c d : LockedCall limits) → ComesBefore c d → (history : List HistoryEntry) → IsExtendedBy d.new.seen history → StandBefore history c d
   stands c d before history more =
       let found : d.found ≡ before.0 ++ (entries c ++ c.found) = before.1 ∙ ap (λ (h : List HistoryEntry). before.0 ++ h) c.adds.ends in
       (more.0, before.0, more.1 ∙ ap (λ (h : List HistoryEntry). more.0 ++ h) (d.adds.ends ∙ ap (λ (h : List HistoryEntry). entries d ++ h) found))
@@ -125,11 +125,11 @@ after_seen = record {
 
 -- so do the steps of a call
 pub steps_after_seen : StepsComeAfterWhatWasSeen
-steps_after_seen limits d acts pass made own_is run told =
+steps_after_seen limits d acts made own_is run told =
     let p = d.old.pass in
     let newer = d.adds.follows.0 in
     let made_since = steps_in newer in
-    let whole : d.new.steps ≡ own p made_since ++ own p (steps_in d.old.trace) = d.adds.sees.agrees.pass_is.steps_is ∙ (ap (λ q. own q (steps_in d.new.trace)) pass ∙ (ap (λ t. own p (steps_in t)) d.adds.follows.1 ∙ (ap (own p) (steps_over newer d.old.trace) ∙ own-append p made_since (steps_in d.old.trace)))) in
+    let whole : d.new.steps ≡ own p made_since ++ own p (steps_in d.old.trace) = d.adds.sees.agrees.pass_is.steps_is ∙ (ap (λ q. own q (steps_in d.new.trace)) d.adds.pass ∙ (ap (λ t. own p (steps_in t)) d.adds.follows.1 ∙ (ap (own p) (steps_over newer d.old.trace) ∙ own-append p made_since (steps_in d.old.trace)))) in
     let mine : own p made_since ≡ made_by p acts = append_cancel_right (own p made_since) (made_by p acts) d.old.steps (ap (λ (l : List Made). own p made_since ++ l) own_is ∙ (sym whole ∙ made)) in
     (newer, told.0, d.adds.follows.1 ∙ ap (λ (l : List Tick). newer ++ l) told.1, mine)
 
@@ -140,8 +140,8 @@ told_came_first limits pass receipts taken listing finals rest c d told k r at m
 
 -- and each event of it stands at its step
 pub left_in_order : EventsLeftStandInOrder
-left_in_order limits pass receipts taken listing finals rest = subst (λ n. StandInOrder n (steps_in finals.queue.trace) finals.queue.history) rest.first_is (in_order finals.queue.first (steps_in finals.queue.trace) finals.queue.history rest.last.agrees.history_is.placed)
+left_in_order limits pass receipts taken listing finals rest = (subst (λ n. StandInOrder n finals.queue.trace) rest.first_is (in_order finals.queue.first finals.queue.trace rest.last.is_trace), rest.last.entries_are)
 
 pub open_in_order : EventsOfAnOpenQueueStandInOrder
 open_in_order limits taken old listing finals closed =
-    subst (λ (z : ℕ × List HistoryEntry). StandInOrder z.0 (steps_in finals.queue.trace) z.1) (λ k. (closed.first_is k, closed.given.history k)) (in_order finals.queue.first (steps_in finals.queue.trace) finals.queue.history closed.last.agrees.history_is.placed)
+    (subst (λ n. StandInOrder n finals.queue.trace) closed.first_is (in_order finals.queue.first finals.queue.trace closed.last.is_trace), closed.last.entries_are ∙ closed.given.history)

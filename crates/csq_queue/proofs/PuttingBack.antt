@@ -1,6 +1,6 @@
 -- A put-back of an IRP that the joined pass got by a removal.
 use Rattle.std.proofs.Common.{◌≡◌, ℕ, not, ◌&&◌, ◌||◌, Bool, true, false, true≢false, List, [], ◌∷◌, Some, None, Ok, refl, sym, ap, ◌∙◌, subst}
-use Rattle.csq_queue.proofs.Imports.{steps_in, Tick, false_from_ne_true, or_right, slice_index, IsTrue, length, ◌<◌, TableId, same_irp, number, IrpLife, FileId, Made, Rearm, Test, Disarm, holds_in, removed_in, owes, holds, listed, armed, was_armed, same_irp-refl, same_irp-eq, holds_in-own, removed_in-own, Rearmed, Place, InsertStatus, Listing, put_at, inserted, without_irp, is_listed, MayMake, after_step, with_noted, FlagSeen, Mark, PutBack, Pending, Cancelled, Refused, present_in, has_irp, has_entry, back_refusal, reply_to_insert, plain, new_entry, Limits, IsGone, end_of, queue_of, with_trace, SomeRunAgrees, RecordsAgree, lists, inserts, QueueSeatState, joined_record, with_view, open_now, held_gone, irp_eq, ArePresent, listing-relisted, listing-put_and_taken, listing-marked, one_marked, queue_size, IrpNumbers, IsListOf, HoldsRemoved, IsEntered, Adds, MakesSteps, put_back_steps, InsertAnswer}
+use Rattle.csq_queue.proofs.Imports.{by_value, steps_in, Tick, false_from_ne_true, or_right, slice_index, IsTrue, length, ◌<◌, TableId, same_irp, number, IrpLife, FileId, Made, Rearm, Test, Disarm, holds_in, removed_in, owes, holds, listed, armed, was_armed, same_irp-refl, same_irp-eq, holds_in-own, removed_in-own, Rearmed, Place, InsertStatus, Listing, put_at, inserted, without_irp, is_listed, MayMake, after_step, with_noted, FlagSeen, Mark, PutBack, Pending, Cancelled, Refused, present_in, has_irp, has_entry, back_refusal, reply_to_insert, plain, new_entry, Limits, IsGone, end_of, queue_of, with_trace, SomeRunAgrees, RecordsAgree, lists, inserts, QueueSeatState, joined_record, with_view, open_now, held_gone, irp_eq, ArePresent, listing-relisted, listing-put_and_taken, listing-marked, one_marked, queue_size, IrpNumbers, IsListOf, HoldsRemoved, IsEntered, Adds, MakesSteps, put_back_steps, InsertAnswer}
 use Rattle.csq_words.specs.declared.calls.Call.TheVariants.{PutBack as PutBackCall}
 use Rattle.csq_words.proofs.Truths.{flags_cancelled}
 use Rattle.csq_words.proofs.Marking.{placed_unmarked}
@@ -189,8 +189,6 @@ module _ {t : TableId} {l : Limits} {s : Listing} {v : IrpNumbers} {old : QueueS
             )
           where
             flags_stay : (j : IrpLife) → has_irp (i ∷ (queue_of old.queue).flags) j ≡ true → has_irp (queue_of old.queue).used j ≡ true
-            flags_stay j = at (same_irp i j) refl
-              where
-                at : (b : Bool) → same_irp i j ≡ b → (b || has_irp (queue_of old.queue).flags j) ≡ true → has_irp (queue_of old.queue).used j ≡ true
-                at true e g = ap (has_irp (queue_of old.queue).used) (sym (same_irp-eq i j e)) ∙ is_gone.0
-                at false e g = h.list_is.flags_used j g
+            flags_stay j = by_value (λ b. (b || has_irp (queue_of old.queue).flags j) ≡ true → has_irp (queue_of old.queue).used j ≡ true) (same_irp i j)
+                (λ e g. ap (has_irp (queue_of old.queue).used) (sym (same_irp-eq i j e)) ∙ is_gone.0)
+                (λ _ g. h.list_is.flags_used j g)

@@ -9,8 +9,7 @@ use Rattle.csq_words.specs.declared.views.{HistoryEntry.{HistoryEntry}, Event.{E
 use Rattle.csq_words.specs.Queue.{Limits}
 use Rattle.csq_words.specs.History.{IsExtendedBy, calls_of}
 use Rattle.csq_words.specs.Records.{entries_of}
-use Rattle.csq_words.specs.Recorded.{StandInOrder}
-use Rattle.csq_words.specs.Traces.{steps_in}
+use Rattle.csq_words.specs.Traces.{steps_in, entries_in, StandInOrder}
 use Rattle.csq_words.specs.Finals.{FinalWords}
 use Rattle.csq_queue.specs.Effects.{AddsEvents}
 use Rattle.csq_queue.specs.Cleanups.{SeesCalls}
@@ -59,7 +58,7 @@ pub record CallsComeAfterWhatWasSeen : Type 0 where
 
 -- whatever its pass had seen of the execution before it, the steps of a call come after it
 abbrev pub StepsComeAfterWhatWasSeen : Type 0
-StepsComeAfterWhatWasSeen = (limits : Limits) (d : LockedCall limits) (acts : List Act) → d.new.pass ≡ d.old.pass → d.new.steps ≡ made_by d.old.pass acts ++ d.old.steps → d.old.steps ≡ own d.old.pass (steps_in d.old.trace)
+StepsComeAfterWhatWasSeen = (limits : Limits) (d : LockedCall limits) (acts : List Act) → d.new.steps ≡ made_by d.old.pass acts ++ d.old.steps → d.old.steps ≡ own d.old.pass (steps_in d.old.trace)
     → (trace : List Tick) → IsExtendedBy trace d.old.trace → (newer between : List Tick) × (d.new.trace ≡ newer ++ (between ++ trace)) × (own d.old.pass (steps_in newer) ≡ made_by d.old.pass acts)
 
 -- a call of the closing pass, or of one whose receipt is shown, stands in the history that is left after each call that it was told of
@@ -70,9 +69,9 @@ CallsToldOfCameFirst = (limits : Limits) (pass : PassRecord) (receipts : List Pa
 -- the history that is left is that of the execution that is left: each event stands at a step of its own pass, in this order, and each step under the lock has its events
 abbrev pub EventsLeftStandInOrder : Type 0
 EventsLeftStandInOrder = (limits : Limits) (pass : PassRecord) (receipts : List PassRecord) (taken : ℕ) (listing : Listing) (finals : FinalWords)
-    → IsRestOf limits pass receipts taken listing finals → StandInOrder limits.first (steps_in finals.queue.trace) finals.queue.history
+    → IsRestOf limits pass receipts taken listing finals → StandInOrder limits.first finals.queue.trace × (entries_in finals.queue.trace ≡ finals.queue.history)
 
 -- so is the history of an open queue that was closed
 abbrev pub EventsOfAnOpenQueueStandInOrder : Type 0
 EventsOfAnOpenQueueStandInOrder = (limits : Limits) (taken : ℕ) (old : QueueRecord) (listing : Listing) (finals : FinalWords)
-    → IsClosed limits taken old listing finals → StandInOrder limits.first (steps_in finals.queue.trace) old.history
+    → IsClosed limits taken old listing finals → StandInOrder limits.first finals.queue.trace × (entries_in finals.queue.trace ≡ old.history)

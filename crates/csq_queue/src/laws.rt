@@ -1,8 +1,9 @@
 //! What happened to each IRP of a queue, and what its passes have seen. Each function stands for a law: its
 //! contract is the law, and there is nothing to run.
 ghost use Rattle.csq_queue.specs.Stories.{EachIrpSeenIsGivenOnce, EachIrpLeftHasAStory, EachIrpOfAnOpenQueueHasAStory, EachStayLeftHasAStory, EachStayInAnOpenQueueHasAStory, ClosingPassesSeeOneHistory, PassesOfAnOpenQueueSeeOneHistory};
-ghost use Rattle.csq_queue.specs.Linear.{HistoriesLeftAreLinearizable, HistoriesOfOpenQueuesAreLinearizable};
 ghost use Rattle.csq_queue.specs.Order.{CallsAreOrdered, CallsComeAfterWhatWasSeen, StepsComeAfterWhatWasSeen, CallsToldOfCameFirst, EventsLeftStandInOrder, EventsOfAnOpenQueueStandInOrder};
+ghost use Rattle.csq_queue.specs.Bounds.{CallsAreShort};
+ghost use Rattle.csq_queue.specs.Moments.{CallsAreInRealTime, CallsLeftAreInRealTime, CallsOfAnOpenQueueAreInRealTime};
 
 /// If the history and the run that a pass has seen agree, as after each of its calls under the lock: an IRP,
 /// in each of its lives, was inserted by at most one pass and given to at most one, since it was last put
@@ -79,6 +80,25 @@ pub fn calls_told_of_came_first()
     ensures { CallsToldOfCameFirst }
 {}
 
+/// The calls under the lock are in real time: if one had returned before another began, it comes before it. That it had
+/// returned is said of a moment between the two, at which the rule of the words holds (as it does at each): the pass of
+/// the one has seen by then what its call left, and that of the other has the record that its call begins with. Nobody
+/// needs to have been told of anything.
+pub fn calls_are_in_real_time()
+    ensures { CallsAreInRealTime }
+{}
+
+/// If `Csq::close` or `Csq::close_with` returns `Ok`, the calls of the closing pass, and of those whose receipts are
+/// shown, stand in the history that is left in real time.
+pub fn calls_left_are_in_real_time()
+    ensures { CallsLeftAreInRealTime }
+{}
+
+/// The same if `OpenQueue::close` returns, of all passes, and the history that the queue had.
+pub fn calls_of_an_open_queue_are_in_real_time()
+    ensures { CallsOfAnOpenQueueAreInRealTime }
+{}
+
 /// If `Csq::close` or `Csq::close_with` returns `Ok`, the history that is left is that of the execution that is
 /// left: each of its events stands at a step of its own pass, in the order of these steps, and each step under the
 /// lock has its events there. Only the events of calls that make no step (a refused insert, a closed file object)
@@ -92,16 +112,10 @@ pub fn events_of_an_open_queue_stand_in_order()
     ensures { EventsOfAnOpenQueueStandInOrder }
 {}
 
-/// If `Csq::close` or `Csq::close_with` returns `Ok`, the calls under the lock are linearizable (Herlihy and
-/// Wing): the history that is left is legal, each of its events stands in the execution that is left at a step
-/// of its own call, between the points at which the call enters and leaves, and if one call left before another
-/// entered, its events stand before those of the other. Both points lie between the beginning and the end of
-/// the call. Which events are those of a call is its own clause (`call` of `AddsEvents`).
-pub fn histories_left_are_linearizable()
-    ensures { HistoriesLeftAreLinearizable }
-{}
-
-/// The same if `OpenQueue::close` returns, of the history that the queue had.
-pub fn histories_of_open_queues_are_linearizable()
-    ensures { HistoriesOfOpenQueuesAreLinearizable }
+/// Each call makes a bounded number of atomic steps. Without the lock: a cancel two (its flag and its take), a completion
+/// one. Under the lock: an insert and a put-back three, a removal of one IRP two, a cancel routine and a reuse one, and a
+/// removal of the next match one more than the matches that it passes over, which are at most as many as the list may
+/// hold.
+pub fn calls_are_short()
+    ensures { CallsAreShort }
 {}

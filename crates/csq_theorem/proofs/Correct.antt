@@ -4,7 +4,6 @@ use mathlib.Core.Option.{some}
 use lib.ListN.{get_elem?}
 use Rattle.csq_words.proofs.Imports.{cases_lt, false_from_ne_true, or_right, list_any, Made, PassId, IrpLife, Standing, Home, Waiting, Owed, Held, Finished, number, flagged, was_armed, claims, dones, listed, has_gone, Row, stands, rest_flagged, same_pass-refl}
 use Rattle.irp_core.proofs.Growing.{whole_outside}
-use Rattle.irp_core.proofs.Resting.{unknown_stands}
 use Rattle.irp_core.specs.Runs.{Size, IsRun, IsAtRest}
 use Rattle.csq_words.specs.declared.views.{PassRecord.{PassRecord}, QueueRecord.{QueueRecord}, Tick.{Tick, TheVariants.{Enters, Leaves, Says}}}
 use Rattle.csq_words.specs.Queue.{Limits, has_entry}
@@ -38,18 +37,14 @@ module _ (size : Size) (E : List Made) (run : IsRun size E) where
   story : IsAtRest E → (i : IrpLife) → Story E i
   story rests i = let s = stands size E run i in story_of E i (λ there. false_from_ne_true (flagged E i) (λ e. rest_flagged size E run rests i (e, there))) _ _ _ _ _ s.0 s.1 (λ p. rests.owed p i) (λ p. rests.held p i)
 
-  -- only IRPs that there are were armed
-  known : (i : IrpLife) → was_armed E i ≡ true → number i < size.irps
-  known i armed = ⊎_elim (λ lt. lt) (λ out. absurd (true≢false (sym armed ∙ (unknown_stands size i out E run).ever_is))) (cases_lt (number i) size.irps)
-
 final_correct : (limits : Limits) (words : List ℕ) (q : QueueRecord) → IsFinal (queue_size limits) words q → q.first ≡ limits.first → IsLegal limits q.history → IsCorrect limits q.trace
 final_correct limits words q last first legal =
     let run = last.agrees.history_is.is_run in record {
       execution = is_execution (queue_size limits) q.trace (subst (λ n. IsTrace n q.trace) first last.is_trace) run;
       finished = λ p. whole_outside p (steps_in q.trace) (last.rests.outside p);
+      all_left = last.all_left;
       list_is = λ i. subst (λ n. has_entry (end_of n (entries_in q.trace)).entries i ≡ listed (steps_in q.trace) i) first
           (ap (λ history. has_entry (end_of q.first history).entries i) last.entries_are ∙ last.agrees.history_is.listed_is i);
-      known = known (queue_size limits) (steps_in q.trace) run;
       sequential = is_sequential limits (entries_in q.trace) (subst (IsLegal limits) (sym last.entries_are) legal);
       in_its_call = λ e newer older is. (in_real_time q.first q.trace last.is_trace).each (Says e) newer older is;
       in_real_time = (in_real_time q.first q.trace last.is_trace).order;
@@ -111,5 +106,5 @@ calls_in limits history old new events adds = (
     adds.call.events_are,
     λ q newer older. (no_turn adds.call.entered.within adds.call.entered.stays (Enters q) refl newer older, no_turn adds.call.entered.within adds.call.entered.stays (Leaves q) refl newer older),
   ),
-  ap (calls_of new.pass) adds.sees.agrees.entries_are ∙ (sym adds.once ∙ adds.calls),
+  ap (calls_of old.pass) adds.sees.agrees.entries_are ∙ (sym (ap (λ p. calls_of p new.seen) adds.pass) ∙ (sym adds.once ∙ adds.calls)),
 )

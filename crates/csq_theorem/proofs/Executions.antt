@@ -131,16 +131,16 @@ pub is_execution : (size : Size) (trace : List Tick) → IsTrace size.first trac
 is_execution size trace at_start run = begins
 is_execution size trace (entering p {trace = t} free rest) run = enters p t free (is_execution size t rest run)
 is_execution size trace (leaving p {trace = t} in' done rest) run = leaves p t in' (unlocked_inside (inside (steps_in t) p) done) (is_execution size t rest run)
-is_execution size trace (unlocked m {trace = t} free rest) run =
+is_execution size trace (unlocked m {trace = t} free alone rest) run =
     let last = run_last size m (steps_in t) run in
-    makes_free m t (is_free (inside (steps_in t) m.pass) m.kind free last.next) last.owned last.found (is_execution size t rest (run_less size m (steps_in t) run))
+    makes_free m t alone (is_free (inside (steps_in t) m.pass) m.kind free last.next) last.known last.owned last.found (is_execution size t rest (run_less size m (steps_in t) run))
 is_execution size trace (recording call m {trace = t} of rest) run =
     let u = end_of size.first (entries_in t) in
     let es = recorded call m.kind m.found u in
     let run' : IsRun size (m ∷ steps_in t) = subst (IsRun size) (steps_says (entries_of m.pass es) (Makes m ∷ t)) run in
     let last = run_last size m (steps_in t) run' in
     subst (IsExecution size) (adding_is m.pass es (Makes m ∷ t))
-    (makes_locked m es t of.caller_is (adds u call m.kind m.found (inside (steps_in t) m.pass) of.of_call of.next) last.owned last.found (is_execution size t rest (run_less size m (steps_in t) run')))
+    (makes_locked m es t of.caller_is (adds u call m.kind m.found (inside (steps_in t) m.pass) of.of_call of.next) last.known last.owned last.found (is_execution size t rest (run_less size m (steps_in t) run')))
 is_execution size trace (noting call n p {trace = t} in' outside rest) run =
     add_note (is_execution size t rest (subst (IsRun size) (steps_says (entries_of p (noted call n)) t) run)) call n
   where

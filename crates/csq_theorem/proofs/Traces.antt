@@ -58,12 +58,13 @@ of_some u s kind v es (put_back_leaves_it i f place) = record { call = PutBack i
 of_some u s kind v es (put_back_takes_back i f place v') = record { call = PutBack i f place; of_call = refl; next = refl; events_are = refl }
 of_some u s kind v es (reuse_renews i life v' later) = record { call = Reuse i.irp; of_call = refl; next = refl; events_are = ap (λ (n : ℕ). event.Reuse i.irp (record { 0 = n }) ∷ []) (sym later) }
 
--- whoever is inside of nothing, or of a cancel, has no lock
-lockless : (s : Inside) → (s ≡ Nothing) ⊎ ((i : IrpLife) × (s ≡ Cancelling i)) → has_lock s ≡ false
+-- a pass that is inside of nothing, or of a cancel, has no lock
+pub lockless : (s : Inside) → (s ≡ Nothing) ⊎ ((i : IrpLife) × (s ≡ Cancelling i)) → has_lock s ≡ false
 lockless s (inl is) = ap has_lock is
 lockless s (inr is) = ap has_lock is.1
 
-needs_none : (s : Inside) (k : Kind) → IsFree s k → needs_lock k ≡ false
+-- a step without the lock needs none
+pub needs_none : (s : Inside) (k : Kind) → IsFree s k → needs_lock k ≡ false
 needs_none Nothing (Flag i) free = refl
 needs_none Nothing (Done i) free = refl
 needs_none (Cancelling j) (Take i) free = refl
@@ -80,8 +81,8 @@ pub is_trace : (size : Size) (trace : List Tick) → IsExecution size trace → 
 is_trace size trace begins = at_start
 is_trace size trace (enters p t free rest) = entering p free (is_trace size t rest)
 is_trace size trace (leaves p t in' done rest) = leaving p in' (lockless (inside (steps_in t) p) done) (is_trace size t rest)
-is_trace size trace (makes_free m t free may found rest) = unlocked m (needs_none (inside (steps_in t) m.pass) m.kind free) (is_trace size t rest)
-is_trace size trace (makes_locked m es t in' adds may found rest) =
+is_trace size trace (makes_free m t alone free known may found rest) = unlocked m (needs_none (inside (steps_in t) m.pass) m.kind free) alone (is_trace size t rest)
+is_trace size trace (makes_locked m es t in' adds known may found rest) =
     let of = of_some (end_of size.first (entries_in t)) (inside (steps_in t) m.pass) m.kind m.found es adds in
     subst (IsTrace size.first) (ap (λ (xs : List Event). says (entries_of m.pass xs) ++ (Makes m ∷ t)) of.events_are ∙ sym (adding_is m.pass es (Makes m ∷ t)))
     (recording of.call m (record { caller_is = in'; of_call = of.of_call; next = of.next }) (is_trace size t rest))

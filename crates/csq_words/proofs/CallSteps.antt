@@ -1,7 +1,7 @@
 -- The steps of a call under the lock keep the rule.
 use Rattle.csq_words.proofs.Named.{by_pass}
 use Rattle.std.proofs.Common.{true, false, cond, ◌≡◌, ℕ, ◌*◌, ◌≤◌, not, ◌&&◌, List, [], ◌∷◌, ◌++◌, map, length, set, Some, append_assoc, refl, sym, ap, ◌∙◌, subst, arith}
-use Rattle.csq_words.proofs.Imports.{inside_of, PassId, Kind, Made, IrpLife, inside, inside_after, listed, Size, IsRun, same_pass-refl, IsFreeFor, Event, Completion, PassRecord, QueueRecord, View, has_entry, has_irp, end_of, IsOrderly, given_to, OwnersPutBack, view_of, entries_of, with_events, with_calls, with_step, with_trace, with_reusing, own, was_armed, present_life, IrpId, Reusing, IsPlaced, IsExtendedBy, Tick, Makes, steps_in, inserts, lists, again, in_flight, passes_given, AreDue, AreTrueOf, IsReuse, IsHistoryOf, with_done, completed_in, IsPassOf, AreStored, RuleHoldsBy, RecordsAgree, HasObserved, own-mine, own-other}
+use Rattle.csq_words.proofs.Imports.{inside_of, PassId, Kind, Made, IrpLife, inside, inside_after, listed, Size, IsRun, same_pass-refl, IsFreeFor, Event, Completion, PassRecord, QueueRecord, View, has_entry, has_irp, end_of, IsOrderly, given_to, OwnersPutBack, view_of, entries_of, with_events, with_calls, with_step, with_trace, with_reusing, own, was_armed, present_life, IrpId, Reusing, IsExtendedBy, Tick, Makes, steps_in, inserts, lists, again, in_flight, passes_given, AreDue, AreTrueOf, IsReuse, IsHistoryOf, with_done, completed_in, IsPassOf, AreStored, RuleHoldsBy, RecordsAgree, HasObserved, own-mine, own-other}
 use Rattle.csq_words.proofs.PassSteps.{AllWords}
 use Rattle.csq_words.proofs.Keeping.{inside_is, only_joined, nobody_in}
 use Rattle.csq_words.proofs.SeatSteps.{LockedStep, locked_step, again_locks, inside_other, begun_more}
@@ -84,9 +84,9 @@ agreed_kept size words views trace id q r seat k =
     (k, record { is_trace = k.traced.is_trace; entries_are = k.traced.entries_are; history_is = k.agrees.history_is; pass_is = rec.of_pass; callers = λ p s. (k.agrees.nobody p (nobody_in q.made size.passes p k.agrees.few s)).1; seen = seen.queue q refl; pass_seen = seen.pass r refl })
 
 pub made_kept : (size : Size) (words words' : List ℕ) (views : List View) (trace : List Tick) (id : ℕ) (q : QueueRecord) (r : PassRecord) (seat : PassId → ℕ) (kind : Kind) (n : ℕ) (es : List Event) (reuse : Reusing)
-    → RuleHoldsBy size words views trace id q (Some r) seat → IsMade size words words' (steps_in trace) q r kind n es reuse → IsPlaced q.first (record { pass = r.pass; kind = kind; found = n } ∷ steps_in trace) (entries_of r.pass es ++ q.history)
+    → RuleHoldsBy size words views trace id q (Some r) seat → IsMade size words words' (steps_in trace) q r kind n es reuse
     → IsTrace q.first (made_trace r kind n es trace) → ObservedAfter size words' views id seat q (made_record r es reuse (made_trace r kind n es trace) q) (with_calls es (with_step kind n r))
-made_kept size words words' views trace id q r seat kind n es reuse k x placed traced =
+made_kept size words words' views trace id q r seat kind n es reuse k x traced =
     let run = steps_in trace in
     let trace' = made_trace r kind n es trace in
     let m : Made = record { pass = r.pass; kind = kind; found = n } in
@@ -113,7 +113,6 @@ made_kept size words words' views trace id q r seat kind n es reuse k x placed t
           (λ same. subst (λ (o : PassId). given_to q.first i history' ≡ o ∷ []) (sym same) (x.putting_back i (ap (λ s. again s i) (sym inside_mine) ∙ (ap (λ (o : PassId). again (inside (m ∷ run) o) i) (sym same) ∙ h))))
           (λ ne. absurd (ne (only_joined run r k.lock p (again_locks (inside run p) i (ap (λ s. again s i) (sym (inside_other m run p ne)) ∙ h)))));
       owners = x.owners;
-      placed = placed;
     } in
     let pass_is : IsPassOf (m ∷ run) history' r' = record {
       seen_is = begins_more r.seen q.history (entries_of r.pass es) was.seen_is;

@@ -1,6 +1,6 @@
 -- The steps of an insert: arm, test, and its own disarm.
 use Rattle.std.proofs.Common.{◌≡◌, ℕ, zero, suc, ◌<◌, Bool, true, false, cond, not, ◌&&◌, ◌||◌, List, ◌∷◌, set, refl, sym, ap, ◌∙◌, subst, arith, length-set}
-use Rattle.csq_words.proofs.Imports.{and-false, and_parts, false_from_ne_true, inside_of, FileId, PassId, Arm, Test, Disarm, Made, life_of, same_irp, is, found_one, own, IrpLife, IsPresent, IrpId, armed, flagged, found_by, was_armed, inside, listed, removed, Size, IsRun, same_irp-refl, inserted_listed, grows_by_arm, grows_by_test, grows_by_insert_disarm, Place, PassRecord, QueueRecord, present_in, has_entry, has_irp, new_entry, put_at, queue_of, routine_at, bit_word, WasCancelled, is_done, inserts, lists, again, recorded, Pending, own_made, own_stays}
+use Rattle.csq_words.proofs.Imports.{by_value, and-false, and_parts, false_from_ne_true, inside_of, FileId, PassId, Arm, Test, Disarm, Made, life_of, same_irp, is, found_one, own, IrpLife, IsPresent, IrpId, armed, flagged, found_by, was_armed, inside, listed, removed, Size, IsRun, same_irp-refl, inserted_listed, grows_by_arm, grows_by_test, grows_by_insert_disarm, Place, PassRecord, QueueRecord, present_in, has_entry, has_irp, new_entry, put_at, queue_of, routine_at, bit_word, WasCancelled, is_done, inserts, lists, again, recorded, Pending, own_made, own_stays}
 use Rattle.irp_core.specs.declared.inside.Inside.TheVariants.{Nothing, Armed, FlagSeen}
 use Rattle.csq_words.specs.declared.calls.Call.TheVariants.{Insert}
 use Rattle.csq_words.specs.declared.views.Event.TheVariants as event
@@ -23,11 +23,9 @@ pub listed_miss : (p : PassId) (i j : IrpLife) (run : List Made) → listed (rec
 listed_miss p i j run = rw (and-false (same_irp i j)) refl
 
 pub listed_hit : (p : PassId) (i j : IrpLife) (run : List Made) → listed (record { pass = p; kind = Disarm i; found = 1 } ∷ run) j ≡ (not (same_irp i j) && listed run j)
-listed_hit p i j run = go (same_irp i j) refl
-  where
-    go : (b : Bool) → same_irp i j ≡ b → listed (record { pass = p; kind = Disarm i; found = 1 } ∷ run) j ≡ (not b && listed run j)
-    go true e = rw e (and-false (was_armed run j))
-    go false e = rw e refl
+listed_hit p i j run = by_value (λ b. listed (record { pass = p; kind = Disarm i; found = 1 } ∷ run) j ≡ (not b && listed run j)) (same_irp i j)
+    (λ e. rw e (and-false (was_armed run j)))
+    (λ e. rw e refl)
 
 module _ (size : Size) (words : List ℕ) (run : List Made) (q : QueueRecord) (r : PassRecord) (x : Sees size words run q r) (n : IrpId) (f : FileId) (place : Place) (inside' : n.0 < size.irps) where
   -- the insert is of the present life

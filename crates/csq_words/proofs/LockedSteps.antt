@@ -1,6 +1,6 @@
 -- What a step or a note under the lock may do to the table.
 use Rattle.std.proofs.Common.{◌≡◌, ◌≢◌, ℕ, zero, suc, ◌<◌, ◌≤◌, ⊎_elim, true, false, ◌||◌, List, [], ◌∷◌, ◌++◌, set, Option, Some, None, refl, sym, ap, ◌∙◌, subst, arith}
-use Rattle.csq_words.proofs.Imports.{set-get_or, cases_lt, false_from_ne_true, slice_index, some, none, some-injective, get_elem?, Allows, step, keeps, set_here, inside_of, owes_in, holds_in, removed_in, PassId, Kind, Arm, Test, Disarm, End, Out, Rearm, Made, number, life_of, IrpLife, armed, flagged, cancel, routine, found_by, owes, holds, listed, IsPresent, inside, has_lock, Size, OfIrp, same_irp-refl, inserted_listed, Call, Event, HistoryEntry, Reusing, Nothing, PassRecord, QueueRecord, View, cancel_at, routine_at, bit_word, life_in, bit_in, present_in, has_entry, has_irp, has_marked, given_to, end_of, MayStand, IsOrderly, OwnersPutBack, view_of, queue_in, pass_in, queue_of, entries_of, with_events, with_calls, with_step, with_trace, with_back, HasQueue, IsOfCall, IsPlaced, recording, noting, IsExtendedBy, Tick, steps_in, HasSeen, HasWords, is_done, in_flight, AreTrueOf, IsReuse, IsHistoryOf, IsPassOf, IsRecord, IsResting, IsBack, IsOut, BackOnce, Fits, RuleHoldsBy, RuleHolds, recorded, MayRemove, MayMake, MayComeBack, MayNote, after_note, SeatView, IsFound, FindsUnmarked, MakesStep, ObservesNote, Notes, owes_in-own, holds_in-own}
+use Rattle.csq_words.proofs.Imports.{set-get_or, cases_lt, false_from_ne_true, slice_index, some, none, some-injective, get_elem?, Allows, step, keeps, set_here, inside_of, owes_in, holds_in, removed_in, PassId, Kind, Arm, Test, Disarm, End, Out, Rearm, Made, number, life_of, IrpLife, armed, flagged, cancel, routine, found_by, owes, holds, listed, IsPresent, inside, has_lock, Size, OfIrp, same_irp-refl, inserted_listed, Call, Event, HistoryEntry, Reusing, Nothing, PassRecord, QueueRecord, View, cancel_at, routine_at, bit_word, life_in, bit_in, present_in, has_entry, has_irp, has_marked, given_to, end_of, MayStand, IsOrderly, OwnersPutBack, view_of, queue_in, pass_in, queue_of, entries_of, with_events, with_calls, with_step, with_trace, with_back, HasQueue, IsOfCall, IsExtendedBy, Tick, steps_in, HasSeen, HasWords, is_done, in_flight, AreTrueOf, IsReuse, IsHistoryOf, IsPassOf, IsRecord, IsResting, IsBack, IsOut, BackOnce, Fits, RuleHoldsBy, RuleHolds, recorded, MayRemove, MayMake, MayComeBack, MayNote, after_note, SeatView, IsFound, FindsUnmarked, MakesStep, ObservesNote, Notes, owes_in-own, holds_in-own}
 use Rattle.irp_core.specs.declared.inside.Inside.TheVariants.{Armed, FlagSeen, Rearmed, FlagSeenAgain}
 use Rattle.irp_core.specs.declared.inside.Inside.TheVariants as inner
 use Rattle.irp_core.proofs.Resting.{unknown_stands}
@@ -195,7 +195,7 @@ makes size slots id q r held call i kind at f a inside' p may s h _ here _ =
     let m : Made = record { pass = r.pass; kind = kind; found = found } in
     let now = made_trace r kind found es trace in
     let q' = made_record r es q.reusing now q in
-    let kept = made_kept size s.words (words_after kind s.words) s.views trace id q r seat kind found es q.reusing k (making size s.words run q r x call kind may p.known found is) (recording call m (of_call call kind q r may) k.agrees.history_is.placed)
+    let kept = made_kept size s.words (words_after kind s.words) s.views trace id q r seat kind found es q.reusing k (making size s.words run q r x call kind may p.known found is)
     (made_traced size s.words s.views trace id q r seat k call kind found may) in (
       view_of q' (Some r'),
       keeps,
@@ -288,8 +288,8 @@ module _ (size : Size) (words : List ℕ) (views : List View) (trace : List Tick
   abbrev noted_trace : List Event → List Tick
   noted_trace es = says (entries_of r.pass es) ++ trace
 
-  noted_kept : (es : List Event) → AreSilent r.pass es → IsPlaced q.first run (entries_of r.pass es ++ q.history) → IsTrace q.first (noted_trace es) → ObservedAfter size words views id seat q (with_events r.pass es (with_trace (noted_trace es) q)) (with_calls es r)
-  noted_kept es quiet placed traced =
+  noted_kept : (es : List Event) → AreSilent r.pass es → IsTrace q.first (noted_trace es) → ObservedAfter size words views id seat q (with_events r.pass es (with_trace (noted_trace es) q)) (with_calls es r)
+  noted_kept es quiet traced =
       let now = noted_trace es in
       let steps_are : steps_in now ≡ run = steps_says (entries_of r.pass es) trace in
       let longer : IsExtendedBy trace now = (says (entries_of r.pass es), refl) in
@@ -310,7 +310,6 @@ module _ (size : Size) (words : List ℕ) (views : List View) (trace : List Tick
         given_is = λ i n. quiet.given_same q.first q.history i ∙ h.given_is i n;
         putting_back = λ p i n. quiet.given_same q.first q.history i ∙ h.putting_back p i n;
         owners = quiet.owners q.first q.history h.owners;
-        placed = placed;
       } in
       let pass_is : IsPassOf run history' r' = record {
         seen_is = begins_more r.seen q.history (entries_of r.pass es) was.seen_is;
@@ -424,20 +423,20 @@ module _ (size : Size) (words : List ℕ) (views : List View) (trace : List Tick
   note_kept : (call : Call) (n : Note) → MayNote size.irps call n q r → Noted call n
   note_kept (Insert i f place) (Refused cause) may =
       let es = event.Insert i f place (reply.Refused cause) ∷ [] in
-      let kept = noted_kept es record { listed_same = λ h f. refl; used_same = λ h f. refl; lives_same = λ h f. refl; plain = λ f E h t. (tt, t); orderly = λ f h o. (tt, o); given_same = λ f h i. refl; owners = λ f h o. ((λ i n. off n), o) } (noting (Insert i f place) (Refused cause) r.pass (nobody_locks may) k.agrees.history_is.placed) (note_traced k.traced (Insert i f place) (Refused cause) (sym (sees size words views trace id q r seat k).same ∙ may)) in
+      let kept = noted_kept es record { listed_same = λ h f. refl; used_same = λ h f. refl; lives_same = λ h f. refl; plain = λ f E h t. (tt, t); orderly = λ f h o. (tt, o); given_same = λ f h i. refl; owners = λ f h o. ((λ i n. off n), o) } (note_traced k.traced (Insert i f place) (Refused cause) (sym (sees size words views trace id q r seat k).same ∙ may)) in
       record { left = noted_trace es; queue = with_events r.pass es (with_trace (noted_trace es) q); joined = Some (with_calls es r); records = refl; kept = kept.0; agreed = kept.1 }
   note_kept (PutBack i f place) (Refused cause) may =
       let es = event.PutBack i f place (reply.Refused cause) ∷ [] in
-      let kept = noted_kept es record { listed_same = λ h f. refl; used_same = λ h f. refl; lives_same = λ h f. refl; plain = λ f E h t. (tt, t); orderly = λ f h o. (tt, o); given_same = λ f h i. refl; owners = λ f h o. ((λ i n. off n), o) } (noting (PutBack i f place) (Refused cause) r.pass (nobody_locks may) k.agrees.history_is.placed) (note_traced k.traced (PutBack i f place) (Refused cause) (sym (sees size words views trace id q r seat k).same ∙ may)) in
+      let kept = noted_kept es record { listed_same = λ h f. refl; used_same = λ h f. refl; lives_same = λ h f. refl; plain = λ f E h t. (tt, t); orderly = λ f h o. (tt, o); given_same = λ f h i. refl; owners = λ f h o. ((λ i n. off n), o) } (note_traced k.traced (PutBack i f place) (Refused cause) (sym (sees size words views trace id q r seat k).same ∙ may)) in
       record { left = noted_trace es; queue = with_events r.pass es (with_trace (noted_trace es) q); joined = Some (with_calls es r); records = refl; kept = kept.0; agreed = kept.1 }
   note_kept (CloseFile f) note.Event may =
       let es = event.CloseFile f ∷ [] in
-      let kept = noted_kept es record { listed_same = λ h f. refl; used_same = λ h f. refl; lives_same = λ h f. refl; plain = λ f E h t. (tt, t); orderly = λ f h o. (tt, o); given_same = λ f h i. refl; owners = λ f h o. ((λ i n. off n), o) } (noting (CloseFile f) note.Event r.pass (nobody_locks may) k.agrees.history_is.placed) (note_traced k.traced (CloseFile f) note.Event (sym (sees size words views trace id q r seat k).same ∙ may)) in
+      let kept = noted_kept es record { listed_same = λ h f. refl; used_same = λ h f. refl; lives_same = λ h f. refl; plain = λ f E h t. (tt, t); orderly = λ f h o. (tt, o); given_same = λ f h i. refl; owners = λ f h o. ((λ i n. off n), o) } (note_traced k.traced (CloseFile f) note.Event (sym (sees size words views trace id q r seat k).same ∙ may)) in
       record { left = noted_trace es; queue = with_events r.pass es (with_trace (noted_trace es) q); joined = Some (with_calls es r); records = refl; kept = kept.0; agreed = kept.1 }
   note_kept (RemoveNext k') n may =
       let es = event.RemoveNext k' None ∷ [] in
       let may' : MayMake (RemoveNext k') End q r = removal_may n may in
-      let kept = made_kept size words words views trace id q r seat End 0 es q.reusing k (making size words run q r (sees size words views trace id q r seat k) (RemoveNext k') End may' tt 0 refl) (recording (RemoveNext k') (record { pass = r.pass; kind = End; found = 0 }) tt k.agrees.history_is.placed) (made_traced size words views trace id q r seat k (RemoveNext k') End 0 may') in
+      let kept = made_kept size words words views trace id q r seat End 0 es q.reusing k (making size words run q r (sees size words views trace id q r seat k) (RemoveNext k') End may' tt 0 refl) (made_traced size words views trace id q r seat k (RemoveNext k') End 0 may') in
       let now = made_trace r End 0 es trace in
       record { left = now; queue = made_record r es q.reusing now q; joined = Some (with_calls es (with_step End 0 r)); records = refl; kept = kept.0; agreed = kept.1 }
     where
@@ -447,7 +446,7 @@ module _ (size : Size) (words : List ℕ) (views : List View) (trace : List Tick
   note_kept (Remove i) n may =
       let es = event.Remove i false ∷ [] in
       let may' : MayMake (Remove i) End q r = removal_may n may in
-      let kept = made_kept size words words views trace id q r seat End 0 es q.reusing k (making size words run q r (sees size words views trace id q r seat k) (Remove i) End may' tt 0 refl) (recording (Remove i) (record { pass = r.pass; kind = End; found = 0 }) tt k.agrees.history_is.placed) (made_traced size words views trace id q r seat k (Remove i) End 0 may') in
+      let kept = made_kept size words words views trace id q r seat End 0 es q.reusing k (making size words run q r (sees size words views trace id q r seat k) (Remove i) End may' tt 0 refl) (made_traced size words views trace id q r seat k (Remove i) End 0 may') in
       let now = made_trace r End 0 es trace in
       record { left = now; queue = made_record r es q.reusing now q; joined = Some (with_calls es (with_step End 0 r)); records = refl; kept = kept.0; agreed = kept.1 }
     where
@@ -458,7 +457,7 @@ module _ (size : Size) (words : List ℕ) (views : List View) (trace : List Tick
       let i = present_in (queue_of q) m in
       let es = recorded (CancelRoutine m) (Out i) 0 (queue_of q) in
       let may' : (m.0 < size.irps) × MayMake (CancelRoutine m) (Out i) q r = out_may n may in
-      let kept = made_kept size words words views trace id q r seat (Out i) 0 es q.reusing k (making size words run q r (sees size words views trace id q r seat k) (CancelRoutine m) (Out i) may'.1 may'.0 0 refl) (recording (CancelRoutine m) (record { pass = r.pass; kind = Out i; found = 0 }) refl k.agrees.history_is.placed) (made_traced size words views trace id q r seat k (CancelRoutine m) (Out i) 0 may'.1) in
+      let kept = made_kept size words words views trace id q r seat (Out i) 0 es q.reusing k (making size words run q r (sees size words views trace id q r seat k) (CancelRoutine m) (Out i) may'.1 may'.0 0 refl) (made_traced size words views trace id q r seat k (CancelRoutine m) (Out i) 0 may'.1) in
       let now = made_trace r (Out i) 0 es trace in
       record { left = now; queue = made_record r es q.reusing now q; joined = Some (with_calls es (with_step (Out i) 0 r)); records = refl; kept = kept.0; agreed = kept.1 }
     where

@@ -80,7 +80,7 @@ observes_queue size slots id q held s h _ at _ =
       keeps,
       tt,
       (trace, id, q', None, seat, subst (λ ws. RuleHoldsBy size ws views trace id q' None seat) (sym (set-get_or s.words 0 0)) kept),
-      (refl, agreed_of size s.words q' kept.traced.is_trace kept.traced.entries_are (seen.backs q refl) kept.agrees, (record { words = s.words; homes = s.homes; views = views }, (trace, id, q', None, seat, kept), (id, kept.queue_is)), seen.queue q refl),
+      (refl, agreed_of size s.words q' kept.traced.is_trace kept.traced.entries_are (seen.backs q refl) kept.agrees, (record { words = s.words; homes = s.homes; views = views }, (trace, id, q', None, seat, kept), (id, kept.queue_is)), seen.queue q refl, kept.traced.caller_is),
     )
 
 observes_both : (size : Size) (slots id : ℕ) (q : QueueRecord) (r : PassRecord) (held : List (ℕ × Unit {0})) → has_lock (inside_of r.steps) ≡ false

@@ -1,7 +1,7 @@
 -- The steps of a pass's own seat keep the rule.
 use Rattle.std.proofs.Common.{◌≡◌, ◌≢◌, ℕ, ◌+◌, ◌*◌, ◌^◌, ◌<◌, ◌≤◌, ◌==◌, inl, Bool, true, false, cond, if◌then◌else◌, List, [], ◌∷◌, ◌++◌, Some, None, length, set, Option, eqb-true, eq-eqb, refl, sym, ap, ◌∙◌, subst, arith, length-set, get_or-set_same}
 use prog.Atomic.{either}
-use Rattle.csq_words.proofs.Imports.{false_from_ne_true, or_right, set-get_or, slice_index, some, none, get_elem?, Allows, step, keeps, inside_of, holds_in, removed_in, IrpId, PassId, NtStatus, Flag, Take, Done, Made, Inside, number, life_of, same_id, IrpLife, bit, armed, flagged, cancel, routine, found_by, has_lock, owes, holds, removed, last_life, present_life, present, IsPresent, Size, IsRun, same_pass-refl, life_bound, grows_by_flag, grows_by_take, grows_by_done, Pending, Cancelled, Refused, Event, Insert, RemoveNext, Remove, Reuse, PutBack, HistoryEntry, QueueState, after_event, Reusing, Looked, StatusRenewed, RoutineRenewed, Completion, PassRecord, QueueRecord, View, pass_view, with_step, with_completion, with_life, saw, CANCELLED, end_of, cancel_at, routine_at, status_at, bit_word, life_in, bit_in, unset_word, status_word, status_life_in, status_in, renewed_routine, renewed_status, stands_for, is_done, SaysStatus, HasWords, AreTrueOf, MayRenew, IsReuse, IsStored, in_flight, IsHistoryOf, IsPassOf, IsExtendedBy, Tick, Makes, steps_in, IsOut, IsRecord, RuleHoldsBy, RuleHolds, SeatView, life_found, after_flag, SeesFlag, Flags, taken_by, Takes, Completes, own-mine, holds_in-own, removed_in-own}
+use Rattle.csq_words.proofs.Imports.{by_value, false_from_ne_true, or_right, set-get_or, slice_index, some, none, get_elem?, Allows, step, keeps, inside_of, holds_in, removed_in, IrpId, PassId, NtStatus, Flag, Take, Done, Made, Inside, number, life_of, same_id, IrpLife, bit, armed, flagged, cancel, routine, found_by, has_lock, owes, holds, removed, last_life, present_life, present, IsPresent, Size, IsRun, same_pass-refl, life_bound, grows_by_flag, grows_by_take, grows_by_done, Pending, Cancelled, Refused, Event, Insert, RemoveNext, Remove, Reuse, PutBack, HistoryEntry, QueueState, after_event, Reusing, Looked, StatusRenewed, RoutineRenewed, Completion, PassRecord, QueueRecord, View, pass_view, with_step, with_completion, with_life, saw, CANCELLED, end_of, cancel_at, routine_at, status_at, bit_word, life_in, bit_in, unset_word, status_word, status_life_in, status_in, renewed_routine, renewed_status, stands_for, is_done, SaysStatus, HasWords, AreTrueOf, MayRenew, IsReuse, IsStored, in_flight, IsHistoryOf, IsPassOf, IsExtendedBy, Tick, Makes, steps_in, IsOut, IsRecord, RuleHoldsBy, RuleHolds, SeatView, life_found, after_flag, SeesFlag, Flags, taken_by, Takes, Completes, own-mine, holds_in-own, removed_in-own}
 use Rattle.irp_core.specs.declared.inside.Inside.TheVariants.{Nothing, Cancelling}
 use Rattle.csq_words.specs.declared.views.Reusing.TheVariants as reusing
 use Rattle.csq_words.proofs.Facts.{off, due_more, given_take, bit_bound, bit_true, set_listed, listed_now, listed_undone, open_now, open_undone}
@@ -113,9 +113,8 @@ module _ (size : Size) (words : List ℕ) (trace : List Tick) (q : QueueRecord) 
           elsewhere = λ p ne. (refl, refl);
           unlocked = ap has_lock (sym (inside_is run r words q rec) ∙ outside);
           longer = ([], refl);
-          traced = λ joined t. t;
+          traced = λ joined alone t. t;
           mine_seen = ([], refl);
-          placed = λ h. h;
           mine = record { of_pass = record { seen_is = rec.of_pass.seen_is; mine_is = rec.of_pass.mine_is; steps_is = rec.of_pass.steps_is; completed_is = rec.of_pass.completed_is }; stored = rec.stored; due = rec.due; begun = ((omega (arith, life'), omega (arith, life')), rec.begun) };
         },
         life,
@@ -133,11 +132,7 @@ event_lives u (RemoveNext k None) n = omega arith
 event_lives u (RemoveNext k (Some j)) n = omega arith
 event_lives u (Remove j false) n = omega arith
 event_lives u (Remove j true) n = omega arith
-event_lives u (Reuse m life) n = go (same_id m n)
-  where
-    go : (b : Bool) → u.lives n ≤ cond b (u.lives n + 1) (u.lives n)
-    go true = omega arith
-    go false = omega arith
+event_lives u (Reuse m life) n = by_value (λ b. u.lives n ≤ cond b (u.lives n + 1) (u.lives n)) (same_id m n) (λ _. omega arith) (λ _. omega arith)
 event_lives u e n = omega arith
 
 lives_more : (first : ℕ) (newer older : List HistoryEntry) (n : IrpId) → (end_of first older).lives n ≤ (end_of first (newer ++ older)).lives n
@@ -248,11 +243,9 @@ module _ (size : Size) (words : List ℕ) (run : List Made) (reuse : Reusing) (i
 
   -- so a take finds 1 exactly where it exchanges the word
   take_finds : taken_by i (slice_index words (routine_at i.irp)) ≡ found_by run (Take i)
-  take_finds = go (slice_index words (routine_at i.irp) == bit_word (life_of i) 1) refl
-    where
-      go : (b : Bool) → (slice_index words (routine_at i.irp) == bit_word (life_of i) 1) ≡ b → bit b ≡ routine run i
-      go true e = ap bit (sym (word_set (eqb-true _ _ e)).0)
-      go false e = ap bit (sym (false_from_ne_true (armed run i) (λ a. off (sym e ∙ eq-eqb _ _ (set_word a)))))
+  take_finds = by_value (λ b. bit b ≡ routine run i) (slice_index words (routine_at i.irp) == bit_word (life_of i) 1)
+      (λ e. ap bit (sym (word_set (eqb-true _ _ e)).0))
+      (λ e. ap bit (sym (false_from_ne_true (armed run i) (λ a. off (sym e ∙ eq-eqb _ _ (set_word a))))))
 
 module _ (size : Size) (words : List ℕ) (run : List Made) (trace : List Tick) (q : QueueRecord) (r : PassRecord) (i : IrpLife) (known : number i < size.irps) (wide : length words ≡ 3 * size.irps) (ws : AllWords size words run q.reusing) (is_run : IsRun size run)
     (true' : AreTrueOf q.first run q.history) (reuse : IsReuse size run q.reusing) (out : IsOut q r.pass) (few : q.made ≤ size.passes) (rec : IsRecord q.first words run q.history r) (after_flag' : inside_of r.steps ≡ Cancelling i) where

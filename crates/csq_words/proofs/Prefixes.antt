@@ -1,6 +1,6 @@
 -- What a pass has seen: cutting it off, and joining it to another pass's record, keeps the rule, by which that pass then has seen more.
 use Rattle.std.proofs.Common.{◌≡◌, ℕ, List, [], ◌∷◌, ◌++◌, set, refl, sym, ap, ◌∙◌, subst}
-use Rattle.csq_words.proofs.Imports.{set-get_or, some, none, get_elem?, Allows, Splits, Joins, step, keeps, set_here, set_else, set_again, at_longer, PassId, Made, Size, PassRecord, QueueRecord, View, view_of, pass_view, receipt_view, prefix_view, spent_view, pass_prefix_view, prefix_of, saw_prefix, same_view, prefix_view_of, with_prefix_of, IsOrderly, Inside, IsPlaced, IsExtendedBy, Tick, steps_in, HasSeen, AreTrueOf, IsRecord, IsOut, WordsAgree, in_flight, Fits, SeatHasRecord, RuleHoldsBy, RuleHolds, SeatView, SeesAll}
+use Rattle.csq_words.proofs.Imports.{set-get_or, some, none, get_elem?, Allows, Splits, Joins, step, keeps, set_here, set_else, set_again, at_longer, PassId, Made, Size, PassRecord, QueueRecord, View, view_of, pass_view, receipt_view, prefix_view, spent_view, pass_prefix_view, prefix_of, saw_prefix, same_view, prefix_view_of, with_prefix_of, IsOrderly, Inside, IsExtendedBy, Tick, steps_in, HasSeen, AreTrueOf, IsRecord, IsOut, WordsAgree, in_flight, Fits, SeatHasRecord, RuleHoldsBy, RuleHolds, SeatView, SeesAll}
 use Rattle.csq_words.specs.declared.views.Prefix.{Prefix}
 use Rattle.csq_words.specs.Traces.{IsTrace}
 use Rattle.csq_words.proofs.Facts.{off}
@@ -131,7 +131,6 @@ sees_all size slots id r s held st (trace, queue_at, queue, joined, seat, k) _ a
           once = was.mine_is;
           orderly = subst (λ n. IsOrderly n queue.history) first agreed.orderly;
           true_of = subst (λ n. AreTrueOf n run queue.history) first agreed.true_of;
-          placed = subst (λ n. IsPlaced n run queue.history) first agreed.placed;
         },
       ),
     )

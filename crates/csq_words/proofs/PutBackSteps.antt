@@ -1,6 +1,6 @@
 -- The steps of a put-back: rearm, test, disarm.
-use Rattle.std.proofs.Common.{◌≡◌, ℕ, zero, suc, ◌<◌, Bool, true, false, cond, not, ◌&&◌, ◌||◌, List, [], ◌∷◌, map, set, refl, sym, ap, ◌∙◌, subst, arith, length-set}
-use Rattle.csq_words.proofs.Imports.{and-false, and_parts, and_from, or_right, false_from_ne_true, inside_of, holds_in, removed_in, FileId, Test, Disarm, Rearm, Made, number, life_of, same_irp, is, found_one, own, IrpLife, IsPresent, bit, armed, flagged, was_armed, found_by, inside, owes, holds, has_gone, listed, removed, holds_removed, Size, IsRun, same_irp-refl, same_irp-eq, own_made, own_stays, holds_in-own, removed_in-own, inserted_listed, grows_by_rearm, grows_by_test_again, grows_by_disarm_again, Place, put_at, Pending, Completion, PassRecord, QueueRecord, has_entry, has_irp, new_entry, IsGone, given_to, queue_of, routine_at, bit_word, WasCancelled, is_done, was_put_back, inserts, lists, again, passes_given, recorded}
+use Rattle.std.proofs.Common.{◌≡◌, ℕ, zero, suc, ◌<◌, true, false, cond, not, ◌&&◌, ◌||◌, List, [], ◌∷◌, map, set, refl, sym, ap, ◌∙◌, subst, arith, length-set}
+use Rattle.csq_words.proofs.Imports.{by_value, and-false, and_parts, and_from, or_right, false_from_ne_true, inside_of, holds_in, removed_in, FileId, Test, Disarm, Rearm, Made, number, life_of, same_irp, is, found_one, own, IrpLife, IsPresent, bit, armed, flagged, was_armed, found_by, inside, owes, holds, has_gone, listed, removed, holds_removed, Size, IsRun, same_irp-refl, same_irp-eq, own_made, own_stays, holds_in-own, removed_in-own, inserted_listed, grows_by_rearm, grows_by_test_again, grows_by_disarm_again, Place, put_at, Pending, Completion, PassRecord, QueueRecord, has_entry, has_irp, new_entry, IsGone, given_to, queue_of, routine_at, bit_word, WasCancelled, is_done, was_put_back, inserts, lists, again, passes_given, recorded}
 use Rattle.irp_core.specs.declared.inside.Inside.TheVariants.{Nothing, Rearmed, FlagSeenAgain}
 use Rattle.csq_words.specs.declared.calls.Call.TheVariants.{PutBack}
 use Rattle.csq_words.specs.declared.views.Event.TheVariants as event
@@ -92,11 +92,9 @@ module _ (size : Size) (words : List ℕ) (run : List Made) (q : QueueRecord) (r
 
     -- whom it was given to before has it no more
     given_now : (j : IrpLife) → cond (same_irp i j) [] (given_to q.first j q.history) ≡ passes_given run j
-    given_now j = go (same_irp i j) refl
-      where
-        go : (b : Bool) → same_irp i j ≡ b → cond b [] (given_to q.first j q.history) ≡ passes_given run j
-        go false e = x.history_is.given_is j ((flight j).2 ∙ e)
-        go true e = let none : has_gone run i ≡ false = here_not_gone (was_armed run i) (has_gone run i) is_listed in rw (ap (has_gone run) (sym (same_irp-eq i j e)) ∙ none) refl
+    given_now j = by_value (λ b. cond b [] (given_to q.first j q.history) ≡ passes_given run j) (same_irp i j)
+        (λ e. let none : has_gone run i ≡ false = here_not_gone (was_armed run i) (has_gone run i) is_listed in rw (ap (has_gone run) (sym (same_irp-eq i j e)) ∙ none) refl)
+        (λ e. x.history_is.given_is j ((flight j).2 ∙ e))
 
   module _ (after_rearm : inside_of r.steps ≡ Rearmed i) where
     flight_of_rearm : (j : IrpLife) → (lists (inside_of r.steps) j ≡ same_irp i j) × (inserts (inside_of r.steps) j ≡ false) × (again (inside_of r.steps) j ≡ same_irp i j)

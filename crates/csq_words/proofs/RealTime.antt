@@ -1,11 +1,14 @@
 -- The history of an execution in real time, and a call in it.
-use Rattle.std.proofs.Common.{true≢false, ◌≡◌, ℕ, List, [], ◌∷◌, ◌++◌, Some, refl, sym, ap, ◌∙◌, subst}
-use Rattle.csq_words.proofs.Imports.{PassId, Event, recorded, end_of, HistoryEntry, PassRecord, IsExtendedBy, Tick, Makes, entries_of}
+use Rattle.std.proofs.Common.{true, true≢false, ◌≡◌, ℕ, List, [], ◌∷◌, ◌++◌, Some, refl, sym, ap, ◌∙◌, subst}
+use Rattle.csq_words.proofs.Imports.{PassId, Kind, Arm, Test, Disarm, End, Renew, Rearm, Call, QueueState, IsOfCall, Event, recorded, end_of, HistoryEntry, PassRecord, IsExtendedBy, Tick, Makes, entries_of}
 use Rattle.std.proofs.lemmas.List.{append_cancel_right}
 use Rattle.csq_words.specs.declared.views.Tick.{TheVariants.{Enters, Leaves, Says}}
 use Rattle.csq_words.specs.Traces.{entries_in, caller_in, says, MayCome, IsTrace, HasEntered, IsInCall, HasCall, HistoriesAreInRealTime}
 use Rattle.csq_words.specs.Traces.IsTrace.{at_start, recording, noting, unlocked, entering, leaving}
 use Rattle.csq_words.specs.Recorded.{noted}
+use Rattle.csq_words.specs.declared.calls.Call.TheVariants.{Insert, RemoveNext, Remove, CancelRoutine, CloseFile, Reuse, GiveBack, PutBack}
+use Rattle.irp_core.specs.Lock.{needs_lock}
+use Rattle.irp_core.specs.declared.step.Kind.TheVariants as step
 use Rattle.csq_words.proofs.Traced.{caller_says}
 
 -- the events of a longer trace
@@ -33,12 +36,30 @@ says_come : (p : PassId) (es : List Event) (trace : List Tick) → caller_in tra
 says_come p [] trace e all = all
 says_come p (x ∷ es) trace e all = (caller_says (entries_of p es) trace ∙ e, says_come p es trace e all)
 
+-- a step of a call under the lock needs it
+locked_of : (call : Call) (kind : Kind) (u : QueueState) → IsOfCall call kind u → needs_lock kind ≡ true
+locked_of call (Arm j) u of = refl
+locked_of call (Test j) u of = refl
+locked_of call (Disarm j) u of = refl
+locked_of call End u of = refl
+locked_of call (step.Out j) u of = refl
+locked_of call (Renew j) u of = refl
+locked_of call (Rearm j) u of = refl
+locked_of (Insert n f place) kind u of = absurd of
+locked_of (RemoveNext k) kind u of = absurd of
+locked_of (Remove i) kind u of = absurd of
+locked_of (CancelRoutine n) kind u of = absurd of
+locked_of (CloseFile f) kind u of = absurd of
+locked_of (Reuse n) kind u of = absurd of
+locked_of GiveBack kind u of = absurd of
+locked_of (PutBack i f place) kind u of = absurd of
+
 each_comes : (first : ℕ) (trace : List Tick) → IsTrace first trace → EachMayCome trace
 each_comes first trace at_start = tt
 each_comes first trace (entering p {trace = t} free rest) = (free, each_comes first t rest)
 each_comes first trace (leaving p {trace = t} in' done rest) = ((in', done), each_comes first t rest)
-each_comes first trace (unlocked m {trace = t} free rest) = ((λ l. absurd (true≢false (sym l ∙ free))), each_comes first t rest)
-each_comes first trace (recording call m {trace = t} of rest) = says_come m.pass (recorded call m.kind m.found (end_of first (entries_in t))) (Makes m ∷ t) of.caller_is ((λ l. of.caller_is), each_comes first t rest)
+each_comes first trace (unlocked m {trace = t} free alone rest) = (((λ l. absurd (true≢false (sym l ∙ free))), (λ f. alone)), each_comes first t rest)
+each_comes first trace (recording call m {trace = t} of rest) = says_come m.pass (recorded call m.kind m.found (end_of first (entries_in t))) (Makes m ∷ t) of.caller_is (((λ l. of.caller_is), (λ f. absurd (true≢false (sym (locked_of call m.kind (end_of first (entries_in t)) of.of_call) ∙ f)))), each_comes first t rest)
 each_comes first trace (noting call n p {trace = t} in' outside rest) = says_come p (noted call n) t in' (each_comes first t rest)
 
 comes_at : (x : Tick) (newer older : List Tick) → EachMayCome (newer ++ (x ∷ older)) → MayCome x older

@@ -1,6 +1,6 @@
 -- The steps of a removal and of the cancel routine: disarm, end, out.
-use Rattle.std.proofs.Common.{◌≡◌, ℕ, ◌<◌, Bool, true, false, cond, not, ◌&&◌, List, [], ◌∷◌, ◌++◌, set, refl, sym, ap, ◌∙◌, subst, arith, length-set}
-use Rattle.csq_words.proofs.Imports.{and-false, or_right, inside_of, owes_in, was_removed_in, PassId, Disarm, End, Out, Made, Inside, number, life_of, same_irp, is, own, IrpLife, present, IrpId, armed, found_by, was_armed, after_disarm, follows, in_insert, owes, listed, taken, removed, Size, IsRun, same_irp-refl, grows_by_removal_disarm, grows_by_end, grows_by_out, Peek, Event, Mark, PassRecord, QueueRecord, Queued, QueueState, has_entry, has_unmarked, has_irp, marking, without, after_event, end_of, MayStand, IsOrderly, given_to, puts_back, OwnersPutBack, HistoryEntry, queue_of, entries_of, routine_at, bit_word, inserts, lists, again, passes_given, WasCancelled, IsTrueOf, AreTrueOf, due_mark, IsNextMatch, MayRemove, own-mine, own_made, owes_in-own}
+use Rattle.std.proofs.Common.{◌≡◌, ℕ, ◌<◌, true, false, cond, not, ◌&&◌, List, [], ◌∷◌, ◌++◌, set, refl, sym, ap, ◌∙◌, subst, arith, length-set}
+use Rattle.csq_words.proofs.Imports.{by_value, and-false, or_right, inside_of, owes_in, was_removed_in, PassId, Disarm, End, Out, Made, Inside, number, life_of, same_irp, is, own, IrpLife, present, IrpId, armed, found_by, was_armed, after_disarm, follows, in_insert, owes, listed, taken, removed, Size, IsRun, same_irp-refl, grows_by_removal_disarm, grows_by_end, grows_by_out, Peek, Event, Mark, PassRecord, QueueRecord, Queued, QueueState, has_entry, has_unmarked, has_irp, marking, without, after_event, end_of, MayStand, IsOrderly, given_to, puts_back, OwnersPutBack, HistoryEntry, queue_of, entries_of, routine_at, bit_word, inserts, lists, again, passes_given, WasCancelled, IsTrueOf, AreTrueOf, due_mark, IsNextMatch, MayRemove, own-mine, own_made, owes_in-own}
 use Rattle.irp_core.specs.declared.inside.Inside.TheVariants.{Nothing, Removing}
 use Rattle.csq_words.specs.declared.views.Event.TheVariants as event
 use Rattle.csq_words.proofs.Facts.{off, due_more, given_hit, given_miss, given_out, bit_true, owed_listed, listed_taken, listed_now, listed_undone, again_disarm}
@@ -58,11 +58,9 @@ next_listed k es i h = subst (λ l. has_entry l i ≡ true) (sym h.parts) (among
     among (e ∷ before) = or_right (same_irp e.irp i) _ (among before)
 
 pub listed_out : (p : PassId) (i j : IrpLife) (run : List Made) → listed (record { pass = p; kind = Out i; found = 0 } ∷ run) j ≡ (not (same_irp i j) && listed run j)
-listed_out p i j run = go (same_irp i j) refl
-  where
-    go : (b : Bool) → same_irp i j ≡ b → listed (record { pass = p; kind = Out i; found = 0 } ∷ run) j ≡ (not b && listed run j)
-    go true e = rw e (and-false (was_armed run j))
-    go false e = rw e refl
+listed_out p i j run = by_value (λ b. listed (record { pass = p; kind = Out i; found = 0 } ∷ run) j ≡ (not b && listed run j)) (same_irp i j)
+    (λ e. rw e (and-false (was_armed run j)))
+    (λ e. rw e refl)
 
 module _ (size : Size) (words : List ℕ) (run : List Made) (q : QueueRecord) (r : PassRecord) (x : Sees size words run q r) where
   module _ (removes : MayRemove r) where
@@ -88,7 +86,11 @@ module _ (size : Size) (words : List ℕ) (run : List Made) (q : QueueRecord) (r
 
       -- the removal finds the routine taken: the IRP is marked, if it isn't yet
       pub miss_made : 0 ≡ found_by run (Disarm i) → IsMade size words (set words (routine_at i.irp) (bit_word (life_of i) 0)) run q r (Disarm i) 0 (due_mark i (queue_of q)) q.reusing
-      miss_made is = go (has_unmarked (queue_of q).entries i) refl
+      miss_made is = by_value (λ b. IsMade size words (set words (routine_at i.irp) (bit_word (life_of i) 0)) run q r (Disarm i) 0 (cond b (Mark i ∷ []) []) q.reusing) (has_unmarked (queue_of q).entries i)
+          (λ e. made (Mark i ∷ []) (λ j. has_entry-marking i (queue_of q).entries j) (λ j. refl) (λ l. refl)
+          (true_stays size _ run (disarm_run 0 is) (queue_of q) r.pass (Mark i) (listed_taken size run x.history_is.is_run i listed_i (sym is)), stay)
+          (e, x.history_is.orderly) (λ j. refl) ((λ j n. off n), x.history_is.owners))
+          (λ _. made [] (λ j. refl) (λ j. refl) (λ l. refl) stay x.history_is.orderly (λ j. refl) x.history_is.owners)
         where
           made : (es : List Event) → ((j : IrpLife) → has_entry (end_of q.first (entries_of r.pass es ++ q.history)).entries j ≡ has_entry (queue_of q).entries j)
               → ((j : IrpLife) → has_irp (end_of q.first (entries_of r.pass es ++ q.history)).used j ≡ has_irp (queue_of q).used j)
@@ -118,12 +120,6 @@ module _ (size : Size) (words : List ℕ) (run : List Made) (q : QueueRecord) (r
 
           stay : AreTrueOf q.first (record { pass = r.pass; kind = Disarm i; found = 0 } ∷ run) q.history
           stay = truths_stay size _ run (disarm_run 0 is) q.first q.history x.history_is.true_of
-
-          go : (b : Bool) → has_unmarked (queue_of q).entries i ≡ b → IsMade size words (set words (routine_at i.irp) (bit_word (life_of i) 0)) run q r (Disarm i) 0 (cond b (Mark i ∷ []) []) q.reusing
-          go false e = made [] (λ j. refl) (λ j. refl) (λ l. refl) stay x.history_is.orderly (λ j. refl) x.history_is.owners
-          go true e = made (Mark i ∷ []) (λ j. has_entry-marking i (queue_of q).entries j) (λ j. refl) (λ l. refl)
-              (true_stays size _ run (disarm_run 0 is) (queue_of q) r.pass (Mark i) (listed_taken size run x.history_is.is_run i listed_i (sym is)), stay)
-              (e, x.history_is.orderly) (λ j. refl) ((λ j n. off n), x.history_is.owners)
 
       removed_now : was_removed_in (own r.pass (record { pass = r.pass; kind = Disarm i; found = 1 } ∷ run)) i ≡ true
       removed_now = ap (λ s. was_removed_in s i) (own-mine r.pass _ run refl) ∙ rw (same_irp-refl i, ap in_insert (ap inside_of (sym x.steps_is)) ∙ removal_no_insert (inside_of r.steps) removes) refl
@@ -186,7 +182,11 @@ module _ (size : Size) (words : List ℕ) (run : List Made) (q : QueueRecord) (r
 
     -- the cancel routine takes the IRP out, which is marked, if it isn't yet
     pub out_made : IsMade size words words run q r (Out i) 0 (event.Out i ∷ due_mark i (queue_of q)) q.reusing
-    out_made = go (has_unmarked (queue_of q).entries i) refl
+    out_made = by_value (λ b. IsMade size words words run q r (Out i) 0 (event.Out i ∷ cond b (Mark i ∷ []) []) q.reusing) (has_unmarked (queue_of q).entries i)
+        (λ e. made (Mark i ∷ []) (λ j. has_entry-without i (marking i (queue_of q).entries) j ∙ ap (λ b. not (same_irp i j) && b) (has_entry-marking i (queue_of q).entries j)) (λ j. refl) (λ l. refl)
+        (true_stays size _ run out_run (queue_of q) r.pass (Mark i) facts.3, stay)
+        (one_marked i (queue_of q).entries out_listed, (e, x.history_is.orderly)) (λ j. refl) ((λ j n. off n), x.history_is.owners))
+        (λ e. made [] (λ j. has_entry-without i (queue_of q).entries j) (λ j. refl) (λ l. refl) stay (marked_else i (queue_of q).entries out_listed e, x.history_is.orderly) (λ j. refl) x.history_is.owners)
       where
         facts : (was_armed run i ≡ true) × (listed run i ≡ true) × (removed run i ≡ false) × (taken run i ≡ true)
         facts = owed_listed size run x.history_is.is_run i r.pass owed_run
@@ -226,9 +226,3 @@ module _ (size : Size) (words : List ℕ) (run : List Made) (q : QueueRecord) (r
 
         stay : AreTrueOf q.first (record { pass = r.pass; kind = Out i; found = 0 } ∷ run) q.history
         stay = truths_stay size _ run out_run q.first q.history x.history_is.true_of
-
-        go : (b : Bool) → has_unmarked (queue_of q).entries i ≡ b → IsMade size words words run q r (Out i) 0 (event.Out i ∷ cond b (Mark i ∷ []) []) q.reusing
-        go false e = made [] (λ j. has_entry-without i (queue_of q).entries j) (λ j. refl) (λ l. refl) stay (marked_else i (queue_of q).entries out_listed e, x.history_is.orderly) (λ j. refl) x.history_is.owners
-        go true e = made (Mark i ∷ []) (λ j. has_entry-without i (marking i (queue_of q).entries) j ∙ ap (λ b. not (same_irp i j) && b) (has_entry-marking i (queue_of q).entries j)) (λ j. refl) (λ l. refl)
-            (true_stays size _ run out_run (queue_of q) r.pass (Mark i) facts.3, stay)
-            (one_marked i (queue_of q).entries out_listed, (e, x.history_is.orderly)) (λ j. refl) ((λ j n. off n), x.history_is.owners)

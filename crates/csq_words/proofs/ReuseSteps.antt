@@ -1,5 +1,5 @@
 -- The four steps of a reuse keep the rule.
-use Rattle.csq_words.proofs.Imports.{IsExtendedBy, and_parts, ltb-true, set-get_or, slice_index, is_some, IsSome, none, Allows, step, keeps, inside_of, IrpId, PassId, NtStatus, Renew, Made, life_of, same_id, same_irp, is, IrpLife, was_armed, bit, routine, flagged, listed, removed, last_life, renewals, present_life, present, Size, IsRun, same_irp-refl, same_irp-eq, grows_by_renew, Reusing, Nothing, Looked, StatusRenewed, RoutineRenewed, Completion, PassRecord, QueueRecord, View, cancel_at, routine_at, status_at, bit_word, life_in, unset_word, status_life_in, status_in, present_in, has_entry, has_irp, begin_next, view_of, queue_of, with_calls, with_step, with_reusing, with_trace, recording, Tick, steps_in, next_life, is_done, inserts, lists, again, in_flight, SaysStatus, HasWords, MayRenew, IsReuse, IsHistoryOf, AreStored, RuleHoldsBy, RuleHolds, after_look, after_renewal, SeatView, status_recorded, SaysStatusOf, Looks, RenewsStatus, RenewsRoutine, RenewsCancel, own_made}
+use Rattle.csq_words.proofs.Imports.{by_value, IsExtendedBy, and_parts, ltb-true, set-get_or, slice_index, is_some, IsSome, none, Allows, step, keeps, inside_of, IrpId, PassId, NtStatus, Renew, Made, life_of, same_id, same_irp, is, IrpLife, was_armed, bit, routine, flagged, listed, removed, last_life, renewals, present_life, present, Size, IsRun, same_irp-refl, same_irp-eq, grows_by_renew, Reusing, Nothing, Looked, StatusRenewed, RoutineRenewed, Completion, PassRecord, QueueRecord, View, cancel_at, routine_at, status_at, bit_word, life_in, unset_word, status_life_in, status_in, present_in, has_entry, has_irp, begin_next, view_of, queue_of, with_calls, with_step, with_reusing, with_trace, Tick, steps_in, next_life, is_done, inserts, lists, again, in_flight, SaysStatus, HasWords, MayRenew, IsReuse, IsHistoryOf, AreStored, RuleHoldsBy, RuleHolds, after_look, after_renewal, SeatView, status_recorded, SaysStatusOf, Looks, RenewsStatus, RenewsRoutine, RenewsCancel, own_made}
 use Rattle.std.proofs.Common.{◌≡◌, ℕ, ◌+◌, ◌<◌, nat_lt, cond, Bool, true, false, not, ◌&&◌, List, [], ◌∷◌, length, set, Option, Some, None, ⊎_elim, refl, sym, ap, ◌∙◌, subst, arith, length-set}
 use Rattle.irp_core.specs.declared.inside.Inside.TheVariants as inner
 use Rattle.csq_words.specs.declared.views.Event.TheVariants as event
@@ -112,14 +112,12 @@ module _ (size : Size) (words : List ℕ) (views : List View) (trace : List Tick
 
   -- the history's present lives after a reuse are those of the run after the Renew
   lives_next : (m : IrpId) → (queue_of q).lives m ≡ present_life size.first run m → begin_next i.irp (queue_of q).lives m ≡ present_life size.first (record { pass = r.pass; kind = Renew i; found = 0 } ∷ run) m
-  lives_next m e = go (same_id i.irp m)
+  lives_next m e = by_value (λ b. cond b ((queue_of q).lives m + 1) ((queue_of q).lives m) ≡ size.first + length (cond b (x ∷ renewals run m) (renewals run m))) (same_id i.irp m)
+      (λ _. omega (arith, e))
+      (λ _. e)
     where
       x : Made
       x = record { pass = r.pass; kind = Renew i; found = 0 }
-
-      go : (b : Bool) → cond b ((queue_of q).lives m + 1) ((queue_of q).lives m) ≡ size.first + length (cond b (x ∷ renewals run m) (renewals run m))
-      go true = omega (arith, e)
-      go false = e
 
   -- the Cancel flag is renewed, and the next life begins
   cancel_made : q.reusing ≡ RoutineRenewed i → inside_of r.steps ≡ inner.Nothing
@@ -168,14 +166,11 @@ life_seen w life true b h = h.0
 -- a status that was recorded is stored, or the word stands for a later life
 pub recorded_stored : (words : List ℕ) (i : IrpLife) (status : NtStatus) (cs : List Completion) → AreStored words cs → status_recorded i cs ≡ Some status → SaysStatusOf i status (slice_index words (status_at i.irp))
 recorded_stored words i status [] h e = none_is status e
-recorded_stored words i status (c ∷ cs) h e = go (recorded_stored words i status cs h.1) (same_irp c.irp i) refl e
-  where
-    go : (status_recorded i cs ≡ Some status → SaysStatusOf i status (slice_index words (status_at i.irp))) → (b : Bool) → same_irp c.irp i ≡ b → cond b (Some c.status) (status_recorded i cs) ≡ Some status → SaysStatusOf i status (slice_index words (status_at i.irp))
-    go rest true x e =
-        let same = same_irp-eq c.irp i x in
-        let is : c.status ≡ status = cc e in
-        subst (λ (z : IrpLife × NtStatus). SaysStatusOf z.0 z.1 (slice_index words (status_at z.0.irp))) (λ k. (same k, is k)) h.0
-    go rest false x e = rest e
+recorded_stored words i status (c ∷ cs) h e = by_value (λ b. cond b (Some c.status) (status_recorded i cs) ≡ Some status → SaysStatusOf i status (slice_index words (status_at i.irp))) (same_irp c.irp i)
+    (λ x e. let same = same_irp-eq c.irp i x in
+    let is : c.status ≡ status = cc e in
+    subst (λ (z : IrpLife × NtStatus). SaysStatusOf z.0 z.1 (slice_index words (status_at z.0.irp))) (λ k. (same k, is k)) h.0)
+    (λ _ e. recorded_stored words i status cs h.1 e) e
 
 module _ (size : Size) (words : List ℕ) (views : List View) (trace : List Tick) (id : ℕ) (q : QueueRecord) (r : PassRecord) (seat : PassId → ℕ) (k : RuleHoldsBy size words views trace id q (Some r) seat) (n : IrpId) (known : n.0 < size.irps) (idle : q.reusing ≡ Nothing) where
   abbrev look_run : List Made
@@ -271,7 +266,7 @@ module _ (size : Size) (slots id : ℕ) (q : QueueRecord) (r : PassRecord) (held
         let es = event.Reuse i.irp (next_life i).life ∷ [] in
         let now = made_trace r (Renew i) 0 es trace in
         let made = cancel_made size s.words s.views trace id q r seat k i at outside in
-        let kept = made_kept size s.words (set s.words (cancel_at i.irp) (bit_word (life_of i + 1) 0)) s.views trace id q r seat (Renew i) 0 es Nothing k made.0 (recording (call.Reuse i.irp) (record { pass = r.pass; kind = Renew i; found = 0 }) refl k.agrees.history_is.placed)
+        let kept = made_kept size s.words (set s.words (cancel_at i.irp) (bit_word (life_of i + 1) 0)) s.views trace id q r seat (Renew i) 0 es Nothing k made.0
         (step_traced k.traced (call.Reuse i.irp) (Renew i) 0 refl (sym (sees size s.words s.views trace id q r seat k).same ∙ outside)) in (
           after_renewal i (with_trace now q) r,
           keeps,

@@ -1,15 +1,16 @@
 -- The two general lemmas: a step of a pass's own seat, and a step of the queue's seat while it is joined with a pass, keep the rule.
-use Rattle.std.proofs.Common.{◌≡◌, ◌≢◌, ℕ, ◌<◌, ◌≤◌, false, cond, not, ◌&&◌, List, [], ◌∷◌, length, set, Option, Some, refl, sym, ap, ◌∙◌, subst, ⊎_elim, arith, true}
-use Rattle.csq_words.proofs.Imports.{or_right, some, get_elem?, set_here, set_else, PassId, Made, is, own, IrpLife, Inside, inside, inside_after, has_lock, listed, Size, IsRun, PassRecord, QueueRecord, View, calls_of, IsExtendedBy, view_of, pass_view, was_armed, present_life, life_grows, IrpId, Done, Reusing, Nothing, Looked, StatusRenewed, RoutineRenewed, IsPlaced, inserts, lists, passes_given, HasWords, is_done, in_flight, AreTrueOf, IsHistoryOf, MayRenew, IsReuse, AreStored, HaveBegun, IsRecord, IsOut, IsNobody, HasBack, BackOnce, Fits, HasSeen, HaveSeen, HistoryEntry, Tick, Makes, IsTraceOf, steps_in, SeatHasRecord, RuleHoldsBy, again, same_pass-not, own-other}
+use Rattle.std.proofs.Common.{◌≡◌, ◌≢◌, ℕ, ◌<◌, ◌≤◌, false, cond, not, ◌&&◌, List, [], ◌∷◌, length, set, Option, Some, refl, sym, ap, ◌∙◌, subst, ⊎_elim, arith, true, None}
+use Rattle.csq_words.proofs.Imports.{or_right, some, get_elem?, set_here, set_else, PassId, Made, is, own, IrpLife, Inside, inside, inside_after, has_lock, listed, Size, IsRun, PassRecord, QueueRecord, View, calls_of, IsExtendedBy, view_of, pass_view, was_armed, present_life, life_grows, IrpId, Done, Reusing, Nothing, Looked, StatusRenewed, RoutineRenewed, inserts, lists, passes_given, HasWords, is_done, in_flight, AreTrueOf, IsHistoryOf, MayRenew, IsReuse, AreStored, HaveBegun, IsRecord, IsOut, IsNobody, HasBack, BackOnce, Fits, HasSeen, HaveSeen, HistoryEntry, Tick, Makes, IsTraceOf, steps_in, SeatHasRecord, RuleHoldsBy, again, same_pass-not, own-other, some-injective}
 use Rattle.irp_core.specs.declared.inside.Inside.TheVariants.{Rearmed, FlagSeenAgain}
 use Rattle.irp_core.specs.Lock.{needs_lock}
-use Rattle.csq_words.specs.Recorded.IsPlaced.{unlocked as without}
 use Rattle.csq_words.proofs.Facts.{off, extended_on}
 use Rattle.csq_words.proofs.Named.{by_pass}
 use Rattle.csq_words.proofs.Indexes.{at_below, at_once}
 use Rattle.csq_words.proofs.Truths.{truths_stay}
 use Rattle.csq_words.proofs.Keeping.{none_is, all_set, seen_more, seen_pass, seen_joined, present_else, apart_from, only_joined}
 use Rattle.csq_words.proofs.Traced.{traced_unlocked}
+use Rattle.csq_words.specs.Traces.{caller_in}
+use Rattle.std.specs.Option.{option_map}
 
 -- what a step of a pass's own seat owes, which leaves this run, by this trace, and leaves the pass with the record r'
 pub record OwnStep (size : Size) (words words' : List ℕ) (run run' : List Made) (trace trace' : List Tick) (q : QueueRecord) (r r' : PassRecord) : Type 0 where
@@ -27,10 +28,9 @@ pub record OwnStep (size : Size) (words words' : List ℕ) (run run' : List Made
   pub elsewhere : (p : PassId) → p ≢ r.pass → (own p run' ≡ own p run) × (inside run' p ≡ inside run p)
   pub unlocked : has_lock (inside run' r.pass) ≡ false
   pub longer : IsExtendedBy trace trace'
-  pub traced : (joined : Option PassRecord) → IsTraceOf q.first trace q.history q.found joined → IsTraceOf q.first trace' q.history q.found joined
+  pub traced : (joined : Option PassRecord) → caller_in trace ≢ Some r.pass → IsTraceOf q.first trace q.history q.found joined → IsTraceOf q.first trace' q.history q.found joined
   pub mine_seen : IsExtendedBy r'.trace trace'
   pub mine : IsRecord q.first words' run' q.history r'
-  pub placed : IsPlaced q.first run q.history → IsPlaced q.first run' q.history
 
 renew_more : (size : Size) (m : Made) (run : List Made) → ((n : IrpId) → present_life size.first (m ∷ run) n ≡ present_life size.first run n) → (i : IrpLife) → MayRenew size run i → MayRenew size (m ∷ run) i
 renew_more size m run same i h = record { known = h.known; is_present = h.is_present ∙ sym (same i.irp); done = or_right (is (Done i) m) (is_done run i) h.done; few = h.few }
@@ -61,6 +61,25 @@ inside_other m run p ne = ap (λ b. cond b (inside_after (inside run p) m.kind m
 somebody : (m : ℕ) (a n : PassId) → n ≡ a → 1 ≤ a.0 → a.0 ≤ m → IsNobody m n → ⊥
 somebody m a n e from to s = let e' : n.0 ≡ a.0 = ap (λ (x : PassId). x.0) e in ⊎_elim (λ (z : n.0 ≡ 0). omega (arith, e', from, z)) (λ (l : m < n.0). omega (arith, e', to, l)) s
 
+-- the queue's seat isn't joined with a pass whose seat is its own
+pub not_joined : (size : Size) (words : List ℕ) (views : List View) (trace : List Tick) (queue_at : ℕ) (queue : QueueRecord) (joined : Option PassRecord) (seat : PassId → ℕ) (id : ℕ) (r : PassRecord)
+    → RuleHoldsBy size words views trace queue_at queue joined seat → get_elem? views id ≡ some (pass_view r) → (held : PassRecord) → joined ≡ Some held → held.pass ≡ r.pass → ⊥
+not_joined size words views trace queue_at queue joined seat id r k at held is same =
+    let ours = (k.each_view id (pass_view r) at).pass_here r refl in
+    let there : get_elem? views queue_at ≡ some (view_of queue (Some held)) = k.queue_is ∙ ap (λ (o : Option PassRecord). some (view_of queue o)) is in
+    let theirs = (k.each_view queue_at (view_of queue (Some held)) there).pass_here held refl in
+    let one : queue_at ≡ id = sym theirs.0 ∙ (ap seat same ∙ ours.0) in
+    none_is queue (ap (λ (v : View). v.queue) (some-injective (pass_view r) (view_of queue (Some held)) (sym at ∙ (ap (get_elem? views) (sym one) ∙ there))))
+
+-- so it is in no call under the lock
+not_caller : (size : Size) (words : List ℕ) (views : List View) (trace : List Tick) (queue_at : ℕ) (queue : QueueRecord) (joined : Option PassRecord) (seat : PassId → ℕ) (id : ℕ) (r : PassRecord)
+    → RuleHoldsBy size words views trace queue_at queue joined seat → get_elem? views id ≡ some (pass_view r) → caller_in trace ≢ Some r.pass
+not_caller size words views trace queue_at queue joined seat id r k at calls = by_joined joined refl (sym k.traced.caller_is ∙ calls)
+  where
+    by_joined : (o : Option PassRecord) → joined ≡ o → option_map (λ (h : PassRecord). h.pass) o ≡ Some r.pass → ⊥
+    by_joined None is pass = none_is r.pass pass
+    by_joined (Some held) is pass = let same : held.pass ≡ r.pass = cc in not_joined size words views trace queue_at queue joined seat id r k at held is same
+
 pub own_step : (size : Size) (words words' : List ℕ) (views : List View) (trace trace' : List Tick) (queue_at : ℕ) (queue : QueueRecord) (joined : Option PassRecord) (seat : PassId → ℕ) (id : ℕ) (r r' : PassRecord)
     → RuleHoldsBy size words views trace queue_at queue joined seat → get_elem? views id ≡ some (pass_view r) → OwnStep size words words' (steps_in trace) (steps_in trace') trace trace' queue r r'
     → RuleHoldsBy size words' (set views id (pass_view r')) trace' queue_at queue joined seat
@@ -85,7 +104,6 @@ own_step size words words' views trace trace' queue_at queue joined seat id r r'
               (λ e. off (sym p.unlocked ∙ (ap (λ (x : PassId). has_lock (inside run' x)) (sym e) ∙ again_locks (inside run' n) i h)))
               (λ ne. ap (λ s. again s i) (sym (p.elsewhere n ne).1) ∙ h));
           owners = k.agrees.history_is.owners;
-          placed = p.placed k.agrees.history_is.placed;
         };
         reuse_is = p.reuse_is;
         backs = λ i o e. let b = k.agrees.backs i o e in record { is_record = p.others o (mine.1.not_back i o e) b.is_record; rests = b.rests; made = b.made };
@@ -95,7 +113,7 @@ own_step size words words' views trace trace' queue_at queue joined seat id r r'
         nobody = λ n s. let u = k.agrees.nobody n s in
             ((p.elsewhere n (λ e. somebody queue.made r.pass n e mine.1.from mine.1.to s)).0 ∙ u.0, u.1);
       };
-      traced = p.traced joined k.traced;
+      traced = p.traced joined (not_caller size words views trace queue_at queue joined seat id r k at) k.traced;
       each_seen = all_set (λ i v. HasSeen trace' v) views id (pass_view r') (λ i v _ e. seen_more p.longer (k.each_seen i v e)) (seen_pass r' p.mine_seen);
       queue_is = set_else views id queue_at (pass_view r') (λ e. none_is queue (ap (λ v. v.queue) (at_once views id queue_at (pass_view r) (view_of queue joined) (sym e) at k.queue_is))) ∙ k.queue_is;
       lock = λ q l. by_pass ((o : PassRecord) × (joined ≡ Some o) × (o.pass ≡ q)) q r.pass
@@ -166,9 +184,8 @@ longer_step size words words' run trace m q r r' true' reuse p = record {
   elsewhere = λ n ne. (own-other n m run (λ e. ne (sym e ∙ p.by)), inside_other m run n (λ e. ne (e ∙ p.by)));
   unlocked = p.unlocked;
   longer = (Makes m ∷ [], refl);
-  traced = λ joined t. traced_unlocked m p.free t;
+  traced = λ joined alone t. traced_unlocked m p.free (λ e. alone (e ∙ ap Some p.by)) t;
   mine_seen = ([], sym p.sees_it);
-  placed = λ h. without m p.free h;
   mine = p.mine;
 }
 

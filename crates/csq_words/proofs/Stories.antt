@@ -1,7 +1,7 @@
 -- Where every pass is back, each life that has begun has a story.
 use Rattle.std.proofs.Common.{◌≡◌, ◌⊎◌, ℕ, ◌<◌, ◌≤◌, Bool, true, false, cond, not, ◌&&◌, ◌||◌, List, [], ◌∷◌, ◌++◌, map, length, Some, None, inl, inr, ⊎_elim, refl, sym, ap, ◌∙◌, subst, arith}
 use Rattle.std.specs.Option.{option_map}
-use Rattle.csq_words.proofs.Imports.{Tick, steps_in, list_any, find, some-injective, get_elem?, cases_lt, false_from_ne_true, or_right, FileId, IrpId, PassId, NtStatus, CANCELLED, Arm, Done, Rearm, Made, Standing, Home, Waiting, Owed, Held, Finished, number, life_of, same_irp, is, by, own, IrpLife, flagged, was_armed, claims, dones, listed, present_life, IsPresent, HasBegun, Size, IsRun, same_irp-refl, same_irp-eq, same_pass-refl, same_some, Row, stands, rest_flagged, removed_in-own, inserted_listed, inside, Inside, removed, Place, Peek, put_at, matches, Pending, Cancelled, Refused, Event, FlagSeen, Mark, Insert, RemoveNext, Remove, CloseFile, Reuse, PutBack, HistoryEntry, Completion, PassRecord, QueueRecord, Queued, QueueState, present_in, has_irp, has_entry, first_unmarked, without, new_entry, after_event, end_of, MayStand, IsOrderly, OwnersPutBack, IsGone, puts_back, gives, given_to, queue_of, inside_of, removed_in, status_recorded, is_done, was_set, was_put_back, IsTrueOf, AreTrueOf, inserts, lists, again, RecordsAgree, FinalWords, final_status, IsRecordedBack, AllBack, IsFinal, InLife, any_filtered, inside_of-own}
+use Rattle.csq_words.proofs.Imports.{by_value, Tick, steps_in, list_any, find, some-injective, get_elem?, cases_lt, false_from_ne_true, or_right, FileId, IrpId, PassId, NtStatus, CANCELLED, Arm, Done, Rearm, Made, Standing, Home, Waiting, Owed, Held, Finished, number, life_of, same_irp, is, by, own, IrpLife, flagged, was_armed, claims, dones, listed, present_life, IsPresent, HasBegun, Size, IsRun, same_irp-refl, same_irp-eq, same_pass-refl, same_some, Row, stands, rest_flagged, removed_in-own, inserted_listed, inside, Inside, removed, Place, Peek, put_at, matches, Pending, Cancelled, Refused, Event, FlagSeen, Mark, Insert, RemoveNext, Remove, CloseFile, Reuse, PutBack, HistoryEntry, Completion, PassRecord, QueueRecord, Queued, QueueState, present_in, has_irp, has_entry, first_unmarked, without, new_entry, after_event, end_of, MayStand, IsOrderly, OwnersPutBack, IsGone, puts_back, gives, given_to, queue_of, inside_of, removed_in, status_recorded, is_done, was_set, was_put_back, IsTrueOf, AreTrueOf, inserts, lists, again, RecordsAgree, FinalWords, final_status, IsRecordedBack, AllBack, IsFinal, InLife, any_filtered, inside_of-own}
 use Rattle.irp_core.proofs.Resting.{unknown_stands}
 use Rattle.irp_core.proofs.Next as growing
 use Rattle.irp_core.specs.declared.inside.Inside.TheVariants.{Nothing, Armed, FlagSeen, Removing, Cancelling}
@@ -25,11 +25,9 @@ any_less f g (e ∷ es) h = go (f e) (g e) (any_less f g es) h
 -- the first unmarked match is listed
 first_listed : (k : Peek) (es : List Queued) (j : IrpLife) → Some j ≡ first_unmarked k es → has_entry es j ≡ true
 first_listed k [] j h = absurd cc
-first_listed k (e ∷ es) j h = go (not e.marked && matches k e.file) (first_listed k es j) h
-  where
-    go : (b : Bool) → (Some j ≡ first_unmarked k es → has_entry es j ≡ true) → Some j ≡ option_map (λ (x : Queued). x.irp) (cond b (Some e) (find (λ (x : Queued). not x.marked && matches k x.file) es)) → (same_irp e.irp j || has_entry es j) ≡ true
-    go true rest h = let same : j ≡ e.irp = cc in rw (sym same, same_irp-refl) refl
-    go false rest h = or_right (same_irp e.irp j) (has_entry es j) (rest h)
+first_listed k (e ∷ es) j h = by_value (λ b. (Some j ≡ first_unmarked k es → has_entry es j ≡ true) → Some j ≡ option_map (λ (x : Queued). x.irp) (cond b (Some e) (find (λ (x : Queued). not x.marked && matches k x.file) es)) → (same_irp e.irp j || has_entry es j) ≡ true) (not e.marked && matches k e.file)
+    (λ _ rest h. let same : j ≡ e.irp = cc in rw (sym same, same_irp-refl) refl)
+    (λ _ rest h. or_right (same_irp e.irp j) (has_entry es j) (rest h)) (first_listed k es j) h
 
 -- what a put-back of i ends
 abbrev kept : IrpLife → Event → List PassId → List PassId
@@ -105,85 +103,70 @@ module _ (size : Size) (run : List Made) (r : IsRun size run) (i : IrpLife) (u :
   Next p e = SoFar run i (has_irp (after_event u e).used i) (has_entry (after_event u e).entries i) (cond (accepts u i e) (p ∷ kept i e inserted) (kept i e inserted)) (cond (gives u i e) (p ∷ kept i e given) (kept i e given))
 
   pending : (p : PassId) (n : IrpId) (f : FileId) (place : Place) → has_irp u.used (present_in u n) ≡ false → was_armed (own p run) (present_in u n) ≡ true → Next p (Insert n f place Pending)
-  pending p n f place fresh armed = go (same_irp (present_in u n) i) refl
-    where
-      go : (b : Bool) → same_irp (present_in u n) i ≡ b → SoFar run i (b || has_irp u.used i) (has_entry (put_at place (new_entry (present_in u n) f) u.entries) i) (cond b (p ∷ inserted) inserted) given
-      go false e = subst (λ x. SoFar run i (has_irp u.used i) x inserted given) (sym (has_entry-placed place (new_entry (present_in u n) f) u.entries i ∙ ap (λ b. b || has_entry u.entries i) e)) s
-      go true e =
-          let same = same_irp-eq (present_in u n) i e in
-          let h = only_unused run i _ _ _ _ s (ap (has_irp u.used) (sym same) ∙ fresh) in inr (inl record {
-            used_is = refl;
-            listed_is = has_entry-placed place (new_entry (present_in u n) f) u.entries i ∙ ap (λ b. b || has_entry u.entries i) e;
-            inserter = p;
-            one = ap (λ l. p ∷ l) h.none;
-            armed = set_by_arm i (own p run) (ap (was_armed (own p run)) (sym same) ∙ armed);
-            to_none = h.to_none;
-          })
+  pending p n f place fresh armed = by_value (λ b. SoFar run i (b || has_irp u.used i) (has_entry (put_at place (new_entry (present_in u n) f) u.entries) i) (cond b (p ∷ inserted) inserted) given) (same_irp (present_in u n) i)
+      (λ e. let same = same_irp-eq (present_in u n) i e in
+      let h = only_unused run i _ _ _ _ s (ap (has_irp u.used) (sym same) ∙ fresh) in inr (inl record {
+        used_is = refl;
+        listed_is = has_entry-placed place (new_entry (present_in u n) f) u.entries i ∙ ap (λ b. b || has_entry u.entries i) e;
+        inserter = p;
+        one = ap (λ l. p ∷ l) h.none;
+        armed = set_by_arm i (own p run) (ap (was_armed (own p run)) (sym same) ∙ armed);
+        to_none = h.to_none;
+      }))
+      (λ e. subst (λ x. SoFar run i (has_irp u.used i) x inserted given) (sym (has_entry-placed place (new_entry (present_in u n) f) u.entries i ∙ ap (λ b. b || has_entry u.entries i) e)) s)
 
   took_back : (p : PassId) (n : IrpId) (f : FileId) (place : Place) → has_irp u.used (present_in u n) ≡ false → was_armed (own p run) (present_in u n) ≡ true → Next p (Insert n f place Cancelled)
-  took_back p n f place fresh armed = go (same_irp (present_in u n) i) refl
-    where
-      go : (b : Bool) → same_irp (present_in u n) i ≡ b → SoFar run i (b || has_irp u.used i) (has_entry u.entries i) (cond b (p ∷ inserted) inserted) (cond b (p ∷ given) given)
-      go false e = s
-      go true e =
-          let same = same_irp-eq (present_in u n) i e in
-          let h = only_unused run i _ _ _ _ s (ap (has_irp u.used) (sym same) ∙ fresh) in inr (inr record {
-            used_is = refl;
-            unlisted = h.unlisted;
-            inserter = p;
-            one = ap (λ l. p ∷ l) h.none;
-            armed = set_by_arm i (own p run) (ap (was_armed (own p run)) (sym same) ∙ armed);
-            owner = p;
-            to_one = ap (λ l. p ∷ l) h.to_none;
-          })
+  took_back p n f place fresh armed = by_value (λ b. SoFar run i (b || has_irp u.used i) (has_entry u.entries i) (cond b (p ∷ inserted) inserted) (cond b (p ∷ given) given)) (same_irp (present_in u n) i)
+      (λ e. let same = same_irp-eq (present_in u n) i e in
+      let h = only_unused run i _ _ _ _ s (ap (has_irp u.used) (sym same) ∙ fresh) in inr (inr record {
+        used_is = refl;
+        unlisted = h.unlisted;
+        inserter = p;
+        one = ap (λ l. p ∷ l) h.none;
+        armed = set_by_arm i (own p run) (ap (was_armed (own p run)) (sym same) ∙ armed);
+        owner = p;
+        to_one = ap (λ l. p ∷ l) h.to_none;
+      }))
+      (λ _. s)
 
   leaves : (p : PassId) (j : IrpLife) → has_entry u.entries j ≡ true → SoFar run i (has_irp u.used i) (has_entry (without j u.entries) i) inserted (cond (same_irp j i) (p ∷ given) given)
-  leaves p j there = go (same_irp j i) refl
-    where
-      go : (b : Bool) → same_irp j i ≡ b → SoFar run i (has_irp u.used i) (has_entry (without j u.entries) i) inserted (cond b (p ∷ given) given)
-      go false e = subst (λ x. SoFar run i (has_irp u.used i) x inserted given) (sym (has_entry-without j u.entries i ∙ ap (λ b. not b && has_entry u.entries i) e)) s
-      go true e =
-          let same = same_irp-eq j i e in
-          let h = only_waiting run i _ _ _ _ s (ap (has_entry u.entries) (sym same) ∙ there) in inr (inr record {
-            used_is = h.used_is;
-            unlisted = has_entry-without j u.entries i ∙ ap (λ b. not b && has_entry u.entries i) e;
-            inserter = h.inserter;
-            one = h.one;
-            armed = h.armed;
-            owner = p;
-            to_one = ap (λ l. p ∷ l) h.to_none;
-          })
+  leaves p j there = by_value (λ b. SoFar run i (has_irp u.used i) (has_entry (without j u.entries) i) inserted (cond b (p ∷ given) given)) (same_irp j i)
+      (λ e. let same = same_irp-eq j i e in
+      let h = only_waiting run i _ _ _ _ s (ap (has_entry u.entries) (sym same) ∙ there) in inr (inr record {
+        used_is = h.used_is;
+        unlisted = has_entry-without j u.entries i ∙ ap (λ b. not b && has_entry u.entries i) e;
+        inserter = h.inserter;
+        one = h.one;
+        armed = h.armed;
+        owner = p;
+        to_one = ap (λ l. p ∷ l) h.to_none;
+      }))
+      (λ e. subst (λ x. SoFar run i (has_irp u.used i) x inserted given) (sym (has_entry-without j u.entries i ∙ ap (λ b. not b && has_entry u.entries i) e)) s)
 
   put_back : (p : PassId) (j : IrpLife) (f : FileId) (place : Place) → IsGone u j → was_put_back (own p run) j ≡ true → Next p (PutBack j f place Pending)
-  put_back p j f place gone back = go (same_irp j i) refl
-    where
-      go : (b : Bool) → same_irp j i ≡ b → SoFar run i (has_irp u.used i) (has_entry (put_at place (new_entry j f) u.entries) i) (cond b (p ∷ cond b [] inserted) (cond b [] inserted)) (cond b [] given)
-      go false e = subst (λ x. SoFar run i (has_irp u.used i) x inserted given) (sym (has_entry-placed place (new_entry j f) u.entries i ∙ ap (λ b. b || has_entry u.entries i) e)) s
-      go true e =
-          let same = same_irp-eq j i e in inr (inl record {
-            used_is = ap (has_irp u.used) (sym same) ∙ gone.0;
-            listed_is = has_entry-placed place (new_entry j f) u.entries i ∙ ap (λ b. b || has_entry u.entries i) e;
-            inserter = p;
-            one = refl;
-            armed = set_by_rearm i (own p run) (ap (was_put_back (own p run)) (sym same) ∙ back);
-            to_none = refl;
-          })
+  put_back p j f place gone back = by_value (λ b. SoFar run i (has_irp u.used i) (has_entry (put_at place (new_entry j f) u.entries) i) (cond b (p ∷ cond b [] inserted) (cond b [] inserted)) (cond b [] given)) (same_irp j i)
+      (λ e. let same = same_irp-eq j i e in inr (inl record {
+        used_is = ap (has_irp u.used) (sym same) ∙ gone.0;
+        listed_is = has_entry-placed place (new_entry j f) u.entries i ∙ ap (λ b. b || has_entry u.entries i) e;
+        inserter = p;
+        one = refl;
+        armed = set_by_rearm i (own p run) (ap (was_put_back (own p run)) (sym same) ∙ back);
+        to_none = refl;
+      }))
+      (λ e. subst (λ x. SoFar run i (has_irp u.used i) x inserted given) (sym (has_entry-placed place (new_entry j f) u.entries i ∙ ap (λ b. b || has_entry u.entries i) e)) s)
 
   took_again : (p : PassId) (j : IrpLife) (f : FileId) (place : Place) → IsGone u j → was_put_back (own p run) j ≡ true → Next p (PutBack j f place Cancelled)
-  took_again p j f place gone back = go (same_irp j i) refl
-    where
-      go : (b : Bool) → same_irp j i ≡ b → SoFar run i (has_irp u.used i) (has_entry u.entries i) (cond b (p ∷ cond b [] inserted) (cond b [] inserted)) (cond b (p ∷ cond b [] given) (cond b [] given))
-      go false e = s
-      go true e =
-          let same = same_irp-eq j i e in inr (inr record {
-            used_is = ap (has_irp u.used) (sym same) ∙ gone.0;
-            unlisted = ap (has_entry u.entries) (sym same) ∙ gone.1;
-            inserter = p;
-            one = refl;
-            armed = set_by_rearm i (own p run) (ap (was_put_back (own p run)) (sym same) ∙ back);
-            owner = p;
-            to_one = refl;
-          })
+  took_again p j f place gone back = by_value (λ b. SoFar run i (has_irp u.used i) (has_entry u.entries i) (cond b (p ∷ cond b [] inserted) (cond b [] inserted)) (cond b (p ∷ cond b [] given) (cond b [] given))) (same_irp j i)
+      (λ e. let same = same_irp-eq j i e in inr (inr record {
+        used_is = ap (has_irp u.used) (sym same) ∙ gone.0;
+        unlisted = ap (has_entry u.entries) (sym same) ∙ gone.1;
+        inserter = p;
+        one = refl;
+        armed = set_by_rearm i (own p run) (ap (was_put_back (own p run)) (sym same) ∙ back);
+        owner = p;
+        to_one = refl;
+      }))
+      (λ _. s)
 
   next : (p : PassId) (e : Event) → MayStand u e → IsTrueOf run u p e → Next p e
   next p (FlagSeen j) may t = s

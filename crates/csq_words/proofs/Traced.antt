@@ -1,5 +1,5 @@
 -- Traces: what a tick more leaves of them, and the ticks of a step with what it records.
-use Rattle.std.proofs.Common.{◌≡◌, ℕ, false, List, [], ◌∷◌, ◌++◌, Option, Some, None, refl, sym, ap, ◌∙◌, subst}
+use Rattle.std.proofs.Common.{◌≡◌, ℕ, false, List, [], ◌∷◌, ◌++◌, Option, Some, None, refl, sym, ap, ◌∙◌, subst, ◌≢◌}
 use Rattle.csq_words.proofs.Imports.{PassId, Kind, Made, inside, has_lock, Call, HistoryEntry, PassRecord, end_of, entries_of, IsExtendedBy, IsOfCall, recorded}
 use Rattle.csq_words.specs.declared.calls.Note.{Note}
 use Rattle.csq_words.specs.declared.views.Tick.{Tick, TheVariants.{Enters, Leaves, Makes, Says}}
@@ -54,8 +54,8 @@ in_call_as {trace} same seen c = record {
 }
 
 -- a step without the lock is a tick more
-pub traced_unlocked : (m : Made) {first : ℕ} {trace : List Tick} {history found : List HistoryEntry} {joined : Option PassRecord} → needs_lock m.kind ≡ false → IsTraceOf first trace history found joined → IsTraceOf first (Makes m ∷ trace) history found joined
-traced_unlocked m free t = record { is_trace = unlocked m free t.is_trace; entries_are = t.entries_are; caller_is = t.caller_is; in_call = λ r e. in_call_step m (t.in_call r e) }
+pub traced_unlocked : (m : Made) {first : ℕ} {trace : List Tick} {history found : List HistoryEntry} {joined : Option PassRecord} → needs_lock m.kind ≡ false → caller_in trace ≢ Some m.pass → IsTraceOf first trace history found joined → IsTraceOf first (Makes m ∷ trace) history found joined
+traced_unlocked m free alone t = record { is_trace = unlocked m free alone t.is_trace; entries_are = t.entries_are; caller_is = t.caller_is; in_call = λ r e. in_call_step m (t.in_call r e) }
 
 -- a call enters
 pub traced_enters : {first : ℕ} {trace : List Tick} {history found : List HistoryEntry} (r : PassRecord) → IsExtendedBy r.trace trace → IsTraceOf first trace history found None → IsTraceOf first (Enters r.pass ∷ trace) history history (Some r)

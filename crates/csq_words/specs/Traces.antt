@@ -1,5 +1,5 @@
 -- Traces: an execution's steps, with the events that they record and with where the calls under the lock enter and leave. The newest tick stands first.
-use Rattle.std.specs.Prelude.{◌≡◌, ℕ, Bool, true, false, List, [], ◌∷◌, ◌++◌, map, Option, Some, None}
+use Rattle.std.specs.Prelude.{◌≡◌, ◌⊎◌, ℕ, Bool, true, false, List, [], ◌∷◌, ◌++◌, map, Option, Some, None, ◌≢◌}
 use Rattle.std.specs.Option.{option_map}
 use Rattle.std.specs.List.{list_any}
 use Rattle.irp_core.specs.Inside.{inside, has_lock, follows}
@@ -13,7 +13,7 @@ use Rattle.csq_words.specs.declared.calls.{Call.{Call, TheVariants.{Insert, Remo
 use Rattle.csq_words.specs.declared.views.{HistoryEntry.{HistoryEntry}, Tick.{Tick, TheVariants.{Enters, Leaves, Makes, Says}}, PassRecord.{PassRecord}}
 use Rattle.csq_words.specs.History.{end_of, IsExtendedBy}
 use Rattle.csq_words.specs.Records.{entries_of}
-use Rattle.csq_words.specs.Recorded.{recorded, noted, IsOfCall}
+use Rattle.csq_words.specs.Recorded.{recorded, noted, is_noted, IsOfCall}
 
 -- the steps of a trace
 abbrev pub steps_in : List Tick → List Made
@@ -74,7 +74,7 @@ pub data IsTrace (first : ℕ) : List Tick → Type 0 where
   at_start : IsTrace first []
   entering : (p : PassId) {trace : List Tick} → caller_in trace ≡ None → IsTrace first trace → IsTrace first (Enters p ∷ trace)
   leaving : (p : PassId) {trace : List Tick} → caller_in trace ≡ Some p → has_lock (inside (steps_in trace) p) ≡ false → IsTrace first trace → IsTrace first (Leaves p ∷ trace)
-  unlocked : (m : Made) {trace : List Tick} → needs_lock m.kind ≡ false → IsTrace first trace → IsTrace first (Makes m ∷ trace)
+  unlocked : (m : Made) {trace : List Tick} → needs_lock m.kind ≡ false → caller_in trace ≢ Some m.pass → IsTrace first trace → IsTrace first (Makes m ∷ trace)
   recording : (call : Call) (m : Made) {trace : List Tick} → IsStepOf first trace call m → IsTrace first trace → IsTrace first (says (recorded_after first trace call m) ++ (Makes m ∷ trace))
   noting : (call : Call) (n : Note) (p : PassId) {trace : List Tick} → caller_in trace ≡ Some p → inside (steps_in trace) p ≡ Nothing → IsTrace first trace → IsTrace first (says (entries_of p (noted call n)) ++ trace)
 
@@ -113,11 +113,11 @@ pub record HasCall (old new : PassRecord) (found events : List HistoryEntry) : T
   pub found_is : entries_in before ≡ found
   pub events_are : entries_in entered.within ≡ events
 
--- what a tick needs of the trace before it: a call enters if no other is on its way, and leaves if it is inside of no program under the lock. A step under the lock, and an event, come while a call of their own pass is on its way
+-- what a tick needs of the trace before it: a call enters if no other is on its way, and leaves if it is inside of no program under the lock. A step under the lock, and an event, come while a call of their own pass is on its way, and a step without it while none is
 abbrev pub MayCome : Tick → List Tick → Type 0
 MayCome (Enters p) trace = caller_in trace ≡ None
 MayCome (Leaves p) trace = (caller_in trace ≡ Some p) × (has_lock (inside (steps_in trace) p) ≡ false)
-MayCome (Makes m) trace = needs_lock m.kind ≡ true → caller_in trace ≡ Some m.pass
+MayCome (Makes m) trace = (needs_lock m.kind ≡ true → caller_in trace ≡ Some m.pass) × (needs_lock m.kind ≡ false → caller_in trace ≢ Some m.pass)
 MayCome (Says e) trace = caller_in trace ≡ Some e.pass
 
 -- each tick may come where it stands, whoever is in a call has entered, and if one call left before another entered, the events that were added until it left stand in the history before those that are added after the other entered
@@ -129,3 +129,31 @@ pub record IsInRealTime (trace : List Tick) : Type 0 where
 -- so is every execution
 abbrev pub HistoriesAreInRealTime : Type 0
 HistoriesAreInRealTime = (first : ℕ) (trace : List Tick) → IsTrace first trace → IsInRealTime trace
+
+-- the step m recorded the event: it is the next step of a call of the event's pass after the ticks before it, and the event is among those that it records there, which stand directly after it
+pub record HasRecorded (first : ℕ) (m : Made) (e : HistoryEntry) (older : List Tick) : Type 0 where
+  pub own : m.pass ≡ e.pass
+  pub call : Call
+  pub before : List Tick
+  pub of_call : IsStepOf first before call m
+  pub newer : List HistoryEntry
+  pub within : List HistoryEntry
+  pub recorded_is : recorded_after first before call m ≡ newer ++ (e ∷ within)
+  pub older_is : older ≡ says within ++ (Makes m ∷ before)
+
+-- the step m, after these ticks, is the next one of a call, and what it records there stands directly after it
+pub record IsRecorded (first : ℕ) (m : Made) (newer before : List Tick) : Type 0 where
+  pub call : Call
+  pub of_call : IsStepOf first before call m
+  pub is_trace : IsTrace first before
+  pub later : List Tick
+  pub newer_is : newer ≡ later ++ says (recorded_after first before call m)
+
+-- each event stands at a step of its own pass, or is of a call that makes no step; and each step under the lock has its events there
+pub record StandInOrder (first : ℕ) (trace : List Tick) : Type 0 where
+  pub each_event : (e : HistoryEntry) (newer older : List Tick) → trace ≡ newer ++ (Says e ∷ older) → (is_noted e.event ≡ true) ⊎ ((m : Made) × HasRecorded first m e older)
+  pub each_step : (m : Made) (newer older : List Tick) → trace ≡ newer ++ (Makes m ∷ older) → needs_lock m.kind ≡ true → IsRecorded first m newer older
+
+-- so do the events and the steps of every execution
+abbrev pub EventsStandInOrder : Type 0
+EventsStandInOrder = (first : ℕ) (trace : List Tick) → IsTrace first trace → StandInOrder first trace

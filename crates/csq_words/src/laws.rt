@@ -1,8 +1,7 @@
 //! What happens to each IRP, and what the passes have seen, whatever the run. Each function stands
 //! for a law: its contract is the law, and there is nothing to run.
 ghost use Rattle.csq_words.specs.Stories.{EachIrpHasAStory, EachIrpIsGivenOnce, EachStayHasAStory, NoIrpHasTwoStories, JoinedPassesSeeOneHistory, PassesBackSeeOneHistory, PassesAtTheEndSeeOneHistory, StoriesHaveTheStatusRecorded};
-ghost use Rattle.csq_words.specs.Recorded.{EventsStandInOrder};
-ghost use Rattle.csq_words.specs.Traces.{HistoriesAreInRealTime};
+ghost use Rattle.csq_words.specs.Traces.{EventsStandInOrder, HistoriesAreInRealTime};
 
 /// At every step, in each of its lives, an IRP that isn't just being put back was inserted by at most
 /// one pass and given to at most one, since it was last put back: this one made its one claim since

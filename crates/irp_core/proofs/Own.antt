@@ -1,6 +1,7 @@
 -- A pass's own steps in a run.
 use Rattle.std.proofs.Common.{◌≡◌, ◌≢◌, Bool, true, false, cond, not, ◌&&◌, ◌||◌, List, [], ◌∷◌, filter, refl, ap, ◌∙◌}
 use Rattle.std.proofs.Math.Bool.{and-false, and-true}
+use Rattle.irp_core.proofs.ByTest.{by_value}
 use Rattle.irp_core.proofs.Imports.{or_right, list_any, PassId, Disarm, Flag, Take, Out, Done, Rearm, Made, is, found_one, by, own, since, IrpLife, flagged, inside, inside_after, in_insert, owes, holds}
 use Rattle.irp_core.proofs.Names.{same_pass-is, same_pass-not}
 use Rattle.irp_core.specs.Own.{inside_of, owes_in, holds_in, removed_in}
@@ -15,15 +16,9 @@ module _ {A : Type 0} where
   -- what meets a test in a part of the list meets it in the list
   pub any_filtered : (f g : A → Bool) (xs : List A) → list_any f (filter g xs) ≡ true → list_any f xs ≡ true
   any_filtered f g [] h = h
-  any_filtered f g (x ∷ xs) h = go (any_filtered f g xs) (g x) h
-    where
-      either' : (b : Bool) → (list_any f (filter g xs) ≡ true → list_any f xs ≡ true) → (b || list_any f (filter g xs)) ≡ true → (b || list_any f xs) ≡ true
-      either' true rest h = refl
-      either' false rest h = rest h
-
-      go : (list_any f (filter g xs) ≡ true → list_any f xs ≡ true) → (b : Bool) → list_any f (cond b (x ∷ filter g xs) (filter g xs)) ≡ true → (f x || list_any f xs) ≡ true
-      go rest true h = either' (f x) rest h
-      go rest false h = or_right (f x) (list_any f xs) (rest h)
+  any_filtered f g (x ∷ xs) h = by_value (λ b. list_any f (cond b (x ∷ filter g xs) (filter g xs)) ≡ true → (f x || list_any f xs) ≡ true) (g x)
+      (λ _ h. by_value (λ b. (b || list_any f (filter g xs)) ≡ true → (b || list_any f xs) ≡ true) (f x) (λ _ h. refl) (λ _ h. any_filtered f g xs h) h)
+      (λ _ h. or_right (f x) (list_any f xs) (any_filtered f g xs h)) h
 
 -- the step that a pass makes is its own
 module _ (p : PassId) (m : Made) (E : List Made) (mine : m.pass ≡ p) where

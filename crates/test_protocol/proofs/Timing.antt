@@ -24,8 +24,10 @@ none_is_in_real_time = record {
   left_by_another = none_is _ _ (λ may. let e = apart 1 2 may.0 in absurd (omega (arith, e)));
   left_twice = none_is _ _ (λ may. let e = may.0 in absurd (cc));
   left_inside = none_is _ _ (λ may. let e : true ≡ false = may.1 in absurd (cc));
-  made_outside = none_is _ _ (λ may. let e = may refl in absurd (cc));
-  made_by_another = none_is _ _ (λ may. let e = apart 1 2 (may refl) in absurd (omega (arith, e)));
+  made_outside = none_is _ _ (λ may. let e = may.0 refl in absurd (cc));
+  made_by_another = none_is _ _ (λ may. let e = apart 1 2 (may.0 refl) in absurd (omega (arith, e)));
+  made_in_a_call = none_is _ _ (λ may. may.1 refl refl);
+  taken_in_a_call = none_is _ _ (λ may. may.1 refl refl);
   said_late = none_is _ _ (λ may. absurd (cc));
   said_by_another = none_is _ _ (λ may. let e = apart 2 1 may in absurd (omega (arith, e)));
   turned = λ trace newer between older is at first then whole.

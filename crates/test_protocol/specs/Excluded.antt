@@ -66,6 +66,10 @@ removed_by_2 = did 2 (Disarm (irp 0 0)) 1 ∷ inserts_of 0 []
 
 -- lists of steps that are no execution
 pub record NoneIsARun : Type 0 where
+  -- a pass flags IRP 9, of one IRP
+  pub unknown_irp : IsRun record { irps = 1; passes = 1; first = 0 } (did 1 (Flag (irp 9 0)) 0 ∷ []) → ⊥
+  -- pass 7 flags, of one pass
+  pub unknown_pass : IsRun record { irps = 1; passes = 1; first = 0 } (did 7 (Flag (irp 0 0)) 0 ∷ []) → ⊥
   -- two exchanges find one routine
   pub two_claims : (size : Size) → IsRun size (did 3 (Disarm (irp 0 0)) 1 ∷ removed_by_2) → ⊥
   -- a pass completes what it hasn't claimed

@@ -1,6 +1,6 @@
 -- Wrong executions: calls that overlap, events outside of their call, and a history that isn't in real time. None of them is possible.
 use Rattle.std.specs.Prelude.{◌≡◌, ℕ, List, [], ◌∷◌, ◌++◌}
-use Rattle.irp_core.specs.declared.step.Kind.TheVariants.{Arm, End}
+use Rattle.irp_core.specs.declared.step.Kind.TheVariants.{Arm, End, Flag, Take}
 use Rattle.csq_words.specs.declared.views.Tick.{Tick}
 use Rattle.csq_words.specs.declared.views.Tick.TheVariants.{Enters, Leaves, Makes, Says}
 use Rattle.csq_words.specs.Traces.{entries_in, IsTrace}
@@ -24,6 +24,9 @@ pub record NoneIsInRealTime : Type 0 where
   pub made_outside : IsNone (Makes (did 1 End 0) ∷ [])
   -- in the call of another pass
   pub made_by_another : IsNone (Makes (did 2 End 0) ∷ Enters (pass 1) ∷ [])
+  -- a step of a cancel in a call of its own pass
+  pub made_in_a_call : IsNone (Makes (did 1 (Flag (irp 0 0)) 0) ∷ Enters (pass 1) ∷ [])
+  pub taken_in_a_call : IsNone (Makes (did 1 (Take (irp 0 0)) 0) ∷ Enters (pass 1) ∷ Makes (did 1 (Flag (irp 0 0)) 0) ∷ [])
   -- the event of a call after that has left
   pub said_late : IsNone (Says (found_none 1) ∷ Leaves (pass 1) ∷ Makes (did 1 End 0) ∷ Enters (pass 1) ∷ [])
   -- in the next call, of another pass

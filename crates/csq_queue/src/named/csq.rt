@@ -9,7 +9,7 @@ ghost use Rattle.csq_words.specs.History.{IsLegal, IsExtendedBy, calls_of, end_o
 ghost use Rattle.csq_words.specs.Records.{saw, with_step, with_completion};
 ghost use Rattle.csq_words.specs.Rule.{FindsUnset};
 ghost use Rattle.csq_queue.specs.Calls.{Inserts, PutsBack, RemovesNext, RemovesOne, RunsRoutine, ClosesFile, Reuses, MarksCancel, CompletesOne, ReadsFlag, ReadsStatus};
-ghost use Rattle.csq_queue.specs.Cleanups.{cancelled_by, cleanup_calls, SeesCalls, CompletesAll, NothingIsLeft};
+ghost use Rattle.csq_queue.specs.Cleanups.{cancelled_by, cleanup_calls, Cancels, CleansUp, SeesCalls, CompletesAll, NothingIsLeft};
 ghost use Rattle.csq_queue.specs.Counts.{held_count, owed_count};
 ghost use Rattle.csq_queue.specs.Inserts.{without_token};
 ghost use Rattle.csq_queue.specs.Named.{named, queue_size};
@@ -233,6 +233,7 @@ impl<L: PendingList + Drop, N: QueueName, A: Allocator> Csq<L, N, A> {
         life: Life,
     ) -> Result<bool, CancelRefused>
         ensures known { IsOk result → irp.0 < N.limits.irps }
+        ensures calls { Cancels irp life result N.limits pass.old pass.new }
         ensures call { IfOk result (λ done. done ≡ true → (history : List HistoryEntry)
             × (out : PassRecord) × AddsEvents N.limits history pass.old out
             (Out (named irp life) ∷ due_mark (named irp life) (end_of N.limits.first history))
@@ -274,7 +275,8 @@ impl<L: PendingList + Drop, N: QueueName, A: Allocator> Csq<L, N, A> {
         ensures known { IsOk result ↔ (file.0 < N.limits.files) }
         ensures cleaned { IfOk result (λ count. (taken : List IrpLife) × (count ≡ length taken)
             × SeesCalls N.limits pass.old pass.new (cleanup_calls file taken)
-            × CompletesAll taken pass.old pass.new) }
+            × CompletesAll taken pass.old pass.new
+            × CleansUp N.limits file taken pass.old pass.new) }
         ensures sees { OnOk result (SeesRun (queue_size N.limits) pass.new) }
         ensures follows { OnOk result (IsExtendedBy pass.old.trace pass.new.trace) }
         ensures left { IfOk result (λ count. NothingIsLeft N.limits file pass.new.seen) }

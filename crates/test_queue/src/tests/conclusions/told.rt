@@ -1,13 +1,12 @@
 //! Callers that were told of each other's calls, each in a thread of its own: one hands on what its pass had seen,
 //! and the other's pass learns it.
-ghost use Rattle.csq_words.specs.Traces.{steps_in};
+ghost use Rattle.csq_words.specs.Traces.{steps_in, entries_in, StandInOrder};
 ghost use Rattle.std.specs.Prelude.{◌≡◌, Ok, None, Bool, true, IfOk, IfSome};
 ghost use Rattle.irp_core.specs.declared.ids.IrpLife.{IrpLife};
 ghost use Rattle.irp_core.specs.Owners.{taken, listed};
 ghost use Rattle.irp_core.specs.Words.{flagged, was_armed};
 ghost use Rattle.csq_queue.specs.Inserts.{given_by};
 ghost use Rattle.csq_words.specs.History.{IsExtendedBy, calls_of};
-ghost use Rattle.csq_words.specs.Recorded.{StandInOrder};
 ghost use Rattle.csq_queue.specs.Named.{named};
 ghost use Rattle.csq_queue.specs.Order.{LockedCall, ComesBefore};
 ghost use Rattle.csq_queue.specs.Owned.{Holds, HoldsRemoved};
@@ -46,7 +45,7 @@ pub(crate) fn learn_order<L: PendingList + Drop, N: QueueName, A: Allocator>(
     ensures own { IsExtendedBy pass.old.seen pass.new.seen }
     ensures told { IsExtendedBy seen.history pass.new.seen }
     ensures calls { pass.new.mine ≡ calls_of pass.new.pass pass.new.seen }
-    ensures order { StandInOrder N.limits.first (steps_in pass.new.trace) pass.new.seen }
+    ensures order { StandInOrder N.limits.first pass.new.trace × (entries_in pass.new.trace ≡ pass.new.seen) }
 {
     queue.learn(pass, seen);
 }
