@@ -2,13 +2,12 @@
 use Rattle.std.specs.Prelude.{◌≡◌, ℕ, List, Option, Some, None, MatchOption, if◌then◌else◌}
 use Rattle.irp_core.specs.declared.ids.{FileId.{FileId}, IrpId.{IrpId}}
 use Rattle.csq_list.specs.declared.entry.{Entry.{Entry}, Peek.{Peek}}
-use Rattle.csq_audit.specs.Cleanups.{cleanup_verdict, first_left}
-use Rattle.csq_audit.specs.Lists.{listed}
-use Rattle.csq_audit.specs.Peeks.{peek_verdict}
-use Rattle.csq_audit.specs.declared.cleanup.CleanupVerdict.{CleanupVerdict}
-use Rattle.csq_audit.specs.declared.cleanup.CleanupVerdict.TheVariants as cleanup
-use Rattle.csq_audit.specs.declared.peek.PeekVerdict.{PeekVerdict}
-use Rattle.csq_audit.specs.declared.peek.PeekVerdict.TheVariants as verdict
+use Rattle.csq_checked.specs.Cleanups.{cleanup_verdict, first_left}
+use Rattle.csq_checked.specs.Passes.{listed}
+use Rattle.csq_checked.specs.Peeks.{peek_verdict}
+use Rattle.csq_checked.specs.declared.judge.{cleanup.CleanupVerdict.{CleanupVerdict}, peek.PeekVerdict.{PeekVerdict}}
+use Rattle.csq_checked.specs.declared.judge.cleanup.CleanupVerdict.TheVariants as cleanup
+use Rattle.csq_checked.specs.declared.judge.peek.PeekVerdict.TheVariants as verdict
 use Rattle.csq_queue.specs.Looks.{listed_for}
 use Rattle.csq_c.specs.Bodies.{QueueBodyState}
 use Rattle.csq_c.specs.Lefts.{is_start}

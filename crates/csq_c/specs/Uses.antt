@@ -5,13 +5,12 @@ use Rattle.irp_core.specs.declared.status.{NtStatus.{NtStatus}, TheConstants.NtS
 use Rattle.csq_queue.specs.Calls.{RemovesOne}
 use Rattle.csq_queue.specs.Owned.{HoldsRemoved}
 use Rattle.csq_checked.specs.Calls.{MakesCall}
-use Rattle.csq_checked.specs.Passes.{CheckedPassState}
-use Rattle.csq_audit.specs.Lists.{listed}
-use Rattle.csq_audit.specs.Removes.{removed_by, unremoved_verdict}
-use Rattle.csq_audit.specs.Uses.{JudgesUse, may_complete}
-use Rattle.csq_audit.specs.declared.remove.RemoveVerdict.{RemoveVerdict}
-use Rattle.csq_audit.specs.declared.remove.RemoveVerdict.TheVariants as removal
-use Rattle.csq_audit.specs.declared.uses.UseVerdict.{UseVerdict, TheVariants.{Agrees, Listed, NotHeld, GotCancelled, NotFinal}}
+use Rattle.csq_checked.specs.Passes.{CheckedPassState, listed}
+use Rattle.csq_checked.specs.Removes.{removed_by, unremoved_verdict}
+use Rattle.csq_checked.specs.Uses.{JudgesUse, may_complete}
+use Rattle.csq_checked.specs.declared.judge.remove.RemoveVerdict.{RemoveVerdict}
+use Rattle.csq_checked.specs.declared.judge.remove.RemoveVerdict.TheVariants as removal
+use Rattle.csq_checked.specs.declared.judge.uses.UseVerdict.{UseVerdict, TheVariants.{Agrees, Listed, NotHeld, GotCancelled, NotFinal}}
 use Rattle.csq_c.specs.Bodies.{QueueBodyState}
 use Rattle.csq_c.specs.Exports.{OnQueue}
 use Rattle.csq_c.specs.Looks.{OnOpen}

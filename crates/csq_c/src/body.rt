@@ -1,5 +1,4 @@
 //! What the handle of a queue stands for, and the calls of it.
-ghost use Rattle.std.specs.Prelude.{◌≡◌};
 ghost use Rattle.csq_c.specs.Bodies.{IsPassFor};
 ghost use Rattle.csq_c.specs.Calls.{InsertsInto, PutsBackInto, RemovesNextFrom, RemovesFrom, RunsRoutineOn, CancelsOwedOn, ClosesFileOf, ReusesOf};
 

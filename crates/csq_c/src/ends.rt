@@ -1,7 +1,6 @@
 //! How what a queue's handle stands for is made, gives out passes, and ends.
 ghost use Rattle.std.specs.Prelude.{◌≡◌, ◌⊎◌, ◌↔◌, Ok, Err, Some, None, IsOk, IfOk, IfErr, OnOk, OnErr, IfSome};
 ghost use Rattle.csq_c.specs.Bodies.{IsPassFor};
-ghost use Rattle.csq_c.specs.Codes.{new_code};
 ghost use Rattle.csq_checked.specs.Idle.{NoneIsIdle};
 ghost use Rattle.csq_c.specs.Ends.{IsHandedOut, IsLeftOf, IsTakenBack, give_back_code, out_left, out_of_open};
 

@@ -1,5 +1,5 @@
 //! A box that a program in C holds by its address.
-ghost use Rattle.std.specs.Prelude.{◌≡◌, Option, Some, None, MatchOption, ◌↔◌, true};
+ghost use Rattle.std.specs.Prelude.{◌≡◌, Option, Some, None, MatchOption};
 
 use std::alloc::Global;
 use std::marker::Model;

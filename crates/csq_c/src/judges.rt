@@ -1,8 +1,8 @@
 //! What is to be said of a driver's queue callbacks, beside an open queue, under the caller's lock. Before any other
 //! code each returns CSQ_EMPTY_HANDLE if the handle is empty, then CSQ_CLOSED of a closed queue.
 ghost use Rattle.std.specs.Prelude.{◌≡◌, Option};
-ghost use Rattle.csq_audit.specs.declared.cleanup.CleanupVerdict.{CleanupVerdict as Left};
-ghost use Rattle.csq_audit.specs.declared.peek.PeekVerdict.{PeekVerdict as Verdict};
+ghost use Rattle.csq_checked.specs.declared.judge.cleanup.CleanupVerdict.{CleanupVerdict as Left};
+ghost use Rattle.csq_checked.specs.declared.judge.peek.PeekVerdict.{PeekVerdict as Verdict};
 ghost use Rattle.csq_c.specs.Exports.{IsQueueKept};
 ghost use Rattle.csq_c.specs.Judges.{JudgesCleanupOf, JudgesPeekOf, left_stored, skipped_by, skipped_stored, verdict_number, verdict_stored};
 ghost use Rattle.csq_c.specs.Lefts.{start_of};
@@ -13,7 +13,7 @@ use crate::body::QueueBody;
 use crate::codes::Code;
 use crate::handles::{CsqQueue, lend};
 use crate::shapes::{peek, start, write};
-use csq_audit::{CleanupVerdict, PeekVerdict, judge_cleanup, judge_peek};
+use csq_checked::judge::{CleanupVerdict, PeekVerdict, judge_cleanup, judge_peek};
 use csq_list::Peek;
 use irp_core::{FileId, IrpId};
 

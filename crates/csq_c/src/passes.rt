@@ -1,6 +1,6 @@
 //! How passes are handed out, given back and abandoned.
 ghost use Rattle.std.specs.Prelude.{◌≡◌, ◌⊎◌, ◌<◌, ◌↔◌, Some, None, IfSome};
-ghost use Rattle.csq_checked.specs.Passes.{CheckedState, CheckedPassState};
+ghost use Rattle.csq_checked.specs.Passes.{CheckedPassState};
 ghost use Rattle.csq_c.specs.Bodies.{QueueBodyState, open_of};
 ghost use Rattle.csq_c.specs.Codes.{number_of};
 ghost use Rattle.csq_c.specs.Exports.{ArePaired, AreHandlesKept, IsPassKept};

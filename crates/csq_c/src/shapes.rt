@@ -1,5 +1,5 @@
 //! What C reads and writes beside the handles.
-ghost use Rattle.std.specs.Prelude.{◌≡◌, ℕ, IfSome};
+ghost use Rattle.std.specs.Prelude.{◌≡◌, IfSome};
 ghost use Rattle.csq_c.specs.Sizes.{given_size};
 ghost use Rattle.csq_c.specs.Lefts.{start_of, left_written};
 ghost use Rattle.csq_c.specs.Shapes.{irp_named, place_numbered, peek_of, written, set_to};

@@ -1,6 +1,6 @@
 //! The calls of a pass that take no queue, and no lock. Before any other code each returns
 //! CSQ_EMPTY_HANDLE if the pass's handle is empty.
-ghost use Rattle.std.specs.Prelude.{◌≡◌, ℕ, Bool, Option, Result};
+ghost use Rattle.std.specs.Prelude.{◌≡◌, Bool, Option, Result};
 ghost use Rattle.irp_core.specs.declared.ids.{IrpLife.{IrpLife}, Life.{Life}};
 ghost use Rattle.irp_core.specs.declared.status.NtStatus.{NtStatus as Status};
 ghost use Rattle.csq_queue.specs.Counts.{held_count, owed_count};

@@ -2,8 +2,8 @@
 //! under the caller's lock. Before any other code each returns CSQ_EMPTY_HANDLE if a handle is empty, then
 //! CSQ_OTHER_QUEUE if the pass is another queue's, then CSQ_CLOSED of a closed queue.
 ghost use Rattle.std.specs.Prelude.{◌≡◌, Option};
-ghost use Rattle.csq_audit.specs.declared.remove.RemoveVerdict.{RemoveVerdict as Removal};
-ghost use Rattle.csq_audit.specs.declared.uses.UseVerdict.{UseVerdict as Use};
+ghost use Rattle.csq_checked.specs.declared.judge.remove.RemoveVerdict.{RemoveVerdict as Removal};
+ghost use Rattle.csq_checked.specs.declared.judge.uses.UseVerdict.{UseVerdict as Use};
 ghost use Rattle.csq_c.specs.Bodies.{IsPassFor};
 ghost use Rattle.csq_c.specs.Exports.{ArePaired, OnHandles};
 ghost use Rattle.csq_c.specs.Shapes.{irp_named, set_to, status_numbered};
@@ -13,8 +13,8 @@ use crate::body::QueueBody;
 use crate::codes::Code;
 use crate::handles::{CsqPass, CsqQueue, lend};
 use crate::shapes::{CsqIrp, write};
-use csq_audit::{RemoveVerdict, UseVerdict, judge_complete, judge_insert, judge_remove};
 use csq_checked::CheckedPass;
+use csq_checked::judge::{RemoveVerdict, UseVerdict, judge_complete, judge_insert, judge_remove};
 use irp_core::{IrpLife, NtStatus};
 
 impl QueueBody {

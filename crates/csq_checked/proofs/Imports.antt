@@ -1,8 +1,15 @@
 -- The names that several proof files of this crate import, each from its home.
+pub use Rattle.csq_checked.specs.Cleanups.{first_left, is_excused}
 pub use Rattle.csq_checked.specs.Idle.{AreIdle, IdleSlots, IsIdle, count_out, with_idle_back, with_one_back}
-pub use Rattle.csq_checked.specs.Passes.{CheckedPassState, CheckedState, IsCheckedPass, IsPassIn, open_state}
+pub use Rattle.csq_checked.specs.Passes.{CheckedPassState, CheckedState, IsCheckedPass, IsPassIn, listed, open_state}
+pub use Rattle.csq_checked.specs.Peeks.{matching}
 pub use Rattle.csq_checked.specs.Slots.{KnowsItsOwn, held_after_back, held_at, owed_at, slot_at, with_held}
+pub use Rattle.csq_checked.specs.declared.judge.peek.PeekVerdict.TheVariants.{Agrees}
 pub use Rattle.csq_checked.specs.declared.slots.Held.{Held}
+pub use Rattle.csq_list.proofs.Finding.{IsFound, found, found-listed, found-nearer, found-rest, place-found, rest_after-ends}
+pub use Rattle.csq_list.specs.Searches.{IsStartIn, first_match, is_distinct, is_listed, matches, rest_after}
+pub use Rattle.csq_list.specs.declared.entry.Entry.{Entry}
+pub use Rattle.csq_list.specs.declared.entry.Peek.{Peek}
 pub use Rattle.csq_queue.proofs.Counting.{by_number, spent, tally_none}
 pub use Rattle.csq_queue.proofs.Giving.{GivesOut, insert_gives, remove_gives, remove_next_gives}
 pub use Rattle.csq_queue.proofs.Returning.{IsOfIrp, of_accepted, returns}
@@ -19,6 +26,7 @@ pub use Rattle.irp_core.specs.Own.{held_list, holds_in, owed_list, owes_in, remo
 pub use Rattle.irp_core.specs.Runs.{Size}
 pub use Rattle.irp_core.specs.Steps.{number, same_irp, same_pass}
 unfoldable pub use Rattle.irp_core.specs.Steps.{same_id}
+pub use Rattle.irp_core.specs.declared.ids.IrpId.{IrpId}
 pub use Rattle.irp_core.specs.declared.ids.IrpLife.{IrpLife}
 pub use Rattle.irp_core.specs.declared.ids.Life.{Life}
 pub use Rattle.std.proofs.lemmas.Bool.{false_from_ne_true, leb-false, lt-leb, or_parts}

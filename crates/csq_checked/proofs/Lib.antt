@@ -5,3 +5,7 @@ pub mod Keeping
 pub mod Relisting
 pub mod Placing
 pub mod Checking
+pub mod Standing
+pub mod Judging
+pub mod Leaving
+pub mod Auditing

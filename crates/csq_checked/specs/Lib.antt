@@ -5,3 +5,8 @@ pub mod Causes
 pub mod Sizes
 pub mod Calls
 pub mod Forms
+pub mod Peeks
+pub mod Cleanups
+pub mod Uses
+pub mod Removes
+pub mod Audits

@@ -1,9 +1,11 @@
 -- A pass that knows what it holds and owes, and a queue with its words.
 use Rattle.std.specs.Prelude.{◌≡◌, ℕ, suc, ◌+◌, ◌-◌, ◌<◌, List, length, Option, Some, None, slice_set}
 use Rattle.irp_core.specs.declared.ids.Life.{Life}
+use Rattle.csq_list.specs.declared.entry.Entry.{Entry}
 use Rattle.csq_words.specs.declared.views.PassRecord.{PassRecord}
 use Rattle.csq_words.specs.Records.{new_pass}
 use Rattle.csq_words.specs.Seats.{WordsState}
+use Rattle.csq_queue.specs.Looks.{present_listing}
 use Rattle.csq_queue.specs.Named.{pass_numbered}
 use Rattle.csq_queue.specs.Opens.{OpenState, OpenPassState, OpenRackState, IsQueueOn, IsPassOn, IsRackOn}
 use Rattle.csq_queue.specs.Rests.{HoldsNothing}
@@ -30,6 +32,10 @@ pub record CheckedState : Type 0 where
   pub queue : OpenState
   pub left : ℕ
   pub idle : IdleSlots
+
+-- what is in the queue, in its order
+abbrev pub listed : CheckedState → List Entry
+listed q = (present_listing q.queue).entries
 
 -- the queue, the passes that are left and those that are idle are of these words
 pub record IsCheckedQueue (words : WordsState) (queue : OpenState) (rack : OpenRackState) (idle : IdleSlots) : Type 0 where

@@ -1,5 +1,5 @@
 //! Passes that came back, until they are handed out again.
-ghost use Rattle.std.specs.Prelude.{◌≡◌, ◌≤◌, ◌<◌, length, replicate, None, Some, IfOk, IfErr, IfSome, IfNone, MatchOption, slice_set};
+ghost use Rattle.std.specs.Prelude.{◌≡◌, ◌≤◌, ◌<◌, length, replicate, None, Some, IfOk, IfErr, IfSome, IfNone, slice_set};
 ghost use Rattle.std.specs.Arc.{arc_value};
 ghost use Rattle.csq_queue.specs.Opens.{OpenPassState, IsPassOn, IsQueueOn};
 ghost use Rattle.csq_queue.specs.Rests.{FirstAreBack, HoldsNothing};

@@ -1,9 +1,11 @@
 //! A queue for callers that hold a lock of their own and keep no tokens: each pass knows which IRPs it
-//! holds and owes, and refuses to complete any other.
+//! holds and owes, and refuses to complete any other. Beside such a queue the calls of a driver are judged.
 #![tactic(auto)]
 
 mod calls;
 mod idle;
+pub mod judge;
+pub mod laws;
 mod looks;
 mod pass;
 mod queue;

@@ -1,7 +1,8 @@
 //! What a queue shows without a pass.
 ghost use Rattle.std.specs.Prelude.{◌≡◌, IsTrue};
 ghost use Rattle.csq_list.specs.Searches.{is_distinct};
-ghost use Rattle.csq_queue.specs.Looks.{PeeksNext, listed_count, listed_for, present_listing};
+ghost use Rattle.csq_queue.specs.Looks.{PeeksNext, listed_count, listed_for};
+ghost use Rattle.csq_checked.specs.Passes.{listed};
 
 use crate::queue::CheckedQueue;
 use csq_list::Peek;
@@ -12,7 +13,7 @@ impl CheckedQueue {
     /// How many IRPs are listed, each once, as `OpenQueue::len` counts them.
     pub fn len(&self) -> u32
         ensures count { result ≡ listed_count self.now.queue }
-        ensures each_once { IsTrue (is_distinct (present_listing self.now.queue).entries) }
+        ensures each_once { IsTrue (is_distinct (listed self.now)) }
     {
         self.queue.len()
     }

@@ -1,16 +1,14 @@
 //! A queue without a lock whose passes know what they hold and owe: how it is made, and how it ends.
-ghost use Rattle.std.specs.Prelude.{◌≡◌, ◌+◌, ◌-◌, ◌<◌, ◌≤◌, ◌↔◌, Err, IsTrue, IsOk, IfOk, IfErr, OnOk, OnErr, None, ◌⊎◌, replicate};
+ghost use Rattle.std.specs.Prelude.{◌≡◌, ◌-◌, ◌<◌, ◌↔◌, Err, IsTrue, IsOk, IfOk, IfErr, OnOk, OnErr, ◌⊎◌, replicate};
 ghost use Rattle.irp_core.specs.Runs.{IsInLargeLimits};
 ghost use Rattle.csq_list.specs.Listing.{IsLargeListSize, are_file_limits};
 ghost use Rattle.csq_words.specs.Queue.{limits_of};
-ghost use Rattle.csq_words.specs.Records.{new_pass, new_queue, with_back};
-ghost use Rattle.csq_queue.specs.Named.{pass_numbered, out_count};
-ghost use Rattle.csq_queue.specs.Rests.{HoldsNothing, FirstAreBack, IsClosed};
+ghost use Rattle.csq_queue.specs.Rests.{HoldsNothing, IsClosed};
 ghost use Rattle.std.specs.Arc.{arc_value};
 ghost use Rattle.csq_queue.specs.Opens.{IsQueueOn, IsRackOn};
 ghost use Rattle.csq_checked.specs.Idle.{AreIdle, IsFirstIdle, NoneIsIdle, count_out, with_idle_back};
 ghost use Rattle.csq_checked.specs.Passes.{IsPassIn, HasComeBack, HandsOutNew, HandsOutAgain, out_of};
-ghost use Rattle.csq_checked.specs.Sizes.{IsFreshOf, size_in, limits_given};
+ghost use Rattle.csq_checked.specs.Sizes.{IsFreshOf, size_in, limits_given, new_checked};
 
 use crate::idle::{IdlePass, IdlePasses};
 use crate::pass::CheckedPass;
@@ -51,18 +49,8 @@ impl CheckedQueue {
     /// A queue of this size, whose file objects have no limit of their own. `BadSize` comes exactly if a
     /// number is out of its range, then `Memory`.
     pub fn new(alloc: Global, size: QueueSize) -> Result<CheckedQueue, SizeRefused>
-        ensures made { IfOk result (λ q. q
-            ≡ record {
-              queue = record {
-                table = q.queue.table;
-                limits
-                    = limits_given size (replicate size.files size.irps);
-                queue
-                    = new_queue size.first.0 size.passes;
-              };
-              left = size.passes;
-              idle = replicate size.passes None;
-            }) }
+        ensures made { IfOk result (λ q. q ≡ new_checked size
+            (limits_given size (replicate size.files size.irps)) q.queue.table) }
         ensures bad_size { (result ≡ Err SizeRefused.BadSize)
             ↔ ¬ (IsInLargeLimits (size_in size) × IsLargeListSize size.irps size.files size.limit) }
     {
@@ -81,18 +69,7 @@ impl CheckedQueue {
         file_limits: &[u32],
     ) -> Result<CheckedQueue, SizeRefused>
         ensures made { IfOk result (λ q. q
-            ≡ record {
-              queue = record {
-                table = q.queue.table;
-                limits
-                    = limits_given size file_limits.now;
-                queue = new_queue size.first.0 size.passes;
-              };
-              left
-                  = size.passes;
-              idle
-                  = replicate size.passes None;
-            }) }
+            ≡ new_checked size (limits_given size file_limits.now) q.queue.table) }
         ensures bad_size { (result ≡ Err SizeRefused.BadSize)
             ↔ ¬ (IsInLargeLimits (size_in size) × IsLargeListSize size.irps size.files size.limit
             × IsTrue (are_file_limits size.irps size.files file_limits.now)) }
@@ -120,18 +97,8 @@ impl CheckedQueue {
         requires size { IsInLargeLimits (size_in size) }
         requires fresh { IfOk list (λ list. IsFreshOf size
             (⟦<AnyList as PendingList>⟧.listing list)) }
-        ensures made { IfOk result (λ q. IfOk list
-            (λ list. q ≡ record {
-              queue = record {
-                table = q.queue.table;
-                limits
-                    = limits_of size.passes size.first.0 (⟦<AnyList as PendingList>⟧.listing list);
-                queue
-                    = new_queue size.first.0 size.passes;
-              };
-              left = size.passes;
-              idle = replicate size.passes None;
-            })) }
+        ensures made { IfOk result (λ q. IfOk list (λ list. q ≡ new_checked size
+            (limits_of size.passes size.first.0 (⟦<AnyList as PendingList>⟧.listing list)) q.queue.table)) }
         ensures bad_size { (result ≡ Err SizeRefused.BadSize) ↔ (list ≡ Err SizeRefused.BadSize) }
         ensures ok { IsOk result → IsOk list }
     {
