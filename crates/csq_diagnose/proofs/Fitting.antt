@@ -46,7 +46,7 @@ fit_append (suc n) [] (x ∷ xs) ys f g = absurd f
 fit_append (suc n) (e ∷ es) [] ys f g = absurd f
 fit_append (suc n) (e ∷ es) (x ∷ xs) ys f g = (f.0, fit_append n es xs ys f.1 g)
 
--- of words that fit, one behind words that fit the first n places
+-- of words that fit, the one after words that fit the first n places
 pub fit_at : (n : ℕ) (es : List Expected) (xs more : List (List ℕ)) (w : List ℕ) → Fit (take n es) xs → n ≤ length es → Fit es (xs ++ w ∷ more) → Admits (expected_at es n) w
 fit_at zero [] [] more w f lt g = absurd g
 fit_at zero (e ∷ es) [] more w f lt g = g.0
@@ -80,7 +80,7 @@ life_sample = (record { irp = record { 0 = 0 }; life = record { 0 = 0 } }, inl (
 status_sample : Admits Status (codes "00000000")
 status_sample = (record { 0 = 0 }, (refl, search rules, search rules))
 
--- each place behind the first words of a line has a word that may stand there
+-- each place after the first words of a line has a word that may stand there
 pub fillable_named : (verb : List ℕ) → AreFillable (named verb)
 fillable_named verb = fillable_if (bytes_eq verb (codes "end")) [] (IrpInLife ∷ []) tt (life_sample, tt)
 

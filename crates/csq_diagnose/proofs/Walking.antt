@@ -75,7 +75,7 @@ module _ (line text word : List ℕ) (after : Option (Bor (List ℕ))) (n : ℕ)
   stands : slice_get (words_of line) n ≡ Some word
   stands = (first_left n (words_of line) word (words_left after) (left ∙ cut)).0
 
-  -- what is left behind the word
+  -- what is left after the word
   pub left_after : drop (n + 1) (words_of line) ≡ words_left after
   left_after = ap (λ k. drop k (words_of line)) (add-one n) ∙ (first_left n (words_of line) word (words_left after) (left ∙ cut)).1
 

@@ -16,7 +16,7 @@ IsSpace m = IsSomeAnd m.word (λ w. w.now ≡ [])
 abbrev pub space_of : Misfit → Found
 space_of m = if m.before == 0 then FirstSpace else if m.is_last then LastSpace else TwoSpaces
 
--- a byte that no word has stands so far behind the word's first, and is its first such byte
+-- the first byte of the word that no word has, and its index
 abbrev pub IsStrangeAt : List ℕ → ℕ → ℕ → Type 0
 IsStrangeAt word at byte = (position is_strange word ≡ Some at) × (slice_get word at ≡ Some byte)
 

@@ -18,7 +18,7 @@ abbrev pub second_word : List (List ℕ) → List ℕ
 second_word [] = []
 second_word (w ∷ ws) = first_word ws
 
--- what may stand behind the word that says what a step does
+-- what may follow the word that says what a step does
 abbrev pub named : List ℕ → List Expected
 named verb = if bytes_eq verb (codes "end") then [] else IrpInLife ∷ []
 
@@ -26,7 +26,7 @@ named verb = if bytes_eq verb (codes "end") then [] else IrpInLife ∷ []
 abbrev pub step_places : List ℕ → List Expected
 step_places verb = Pass ∷ Step ∷ named verb
 
--- what may stand behind the name of a call
+-- what may follow the name of a call
 abbrev pub operands : List ℕ → List Expected
 operands name =
     if bytes_eq name (codes "insert") then Irp ∷ File ∷ Place ∷ []

@@ -26,7 +26,7 @@ pub record StandsThere (line : List ℕ) (m : Misfit) : Type 0 where
   pub unfit : IfSome m.word (λ w. ¬ Admits m.expected w.now)
   pub small : IfSome m.word (λ w. m.column + length w.now ≤ 2 ^ 63)
 
--- so many words are all of the line, and more are expected
+-- the line ends after n words, and more are expected
 abbrev pub IsEnd : List Expected → List ℕ → ℕ → Misfit → Type 0
 IsEnd places line n m = (m.before ≡ n) × (n < length places) × (m.word ≡ None) × (m.column ≡ length line + 1) × (m.expected ≡ expected_at places n)
 

@@ -20,7 +20,7 @@ pub struct Malformed<'a> {
     pub found: Found<'a>,
     /// What may stand there.
     pub expected: Expected,
-    /// The nearest word that may stand there, if such words can be listed and a word was found. Small
+    /// The nearest word that may stand there, if these words can be listed and a word was found. Small
     /// and capital letters are one here.
     pub near: Option<Near>,
 }

@@ -60,7 +60,7 @@ fn first_misfit<'a>(places: &[Expected], line: &'a [u8]) -> Option<Misfit<'a>>
     })
 }
 
-/// The misfit of a line that ends after so many words, if more are missing.
+/// The misfit of a line that ends after `before` words, if more are expected.
 fn missing<'a>(places: &[Expected], line: &'a [u8], before: usize) -> Option<Misfit<'a>>
     ensures none { IfNone result (length places.now ≤ before) }
     ensures some { IfSome result (λ m. IsEnd places.now line.now before m) }

@@ -29,7 +29,7 @@ pub fn report_schedule<A: Allocator + Copy>(
     report_input(alloc, &mut explanation, input)
 }
 
-/// Follows a schedule that may break the protocol, as `WrongOrder` does: each step with the value that it found, behind
+/// Follows a schedule that may break the protocol, as `WrongOrder` does: each step with the value that it found, after
 /// the first one that the protocol refuses by the words alone; whether the protocol was kept, and what goes wrong; and
 /// which line ended it and why. `irps` is 1 to 1,024 and `passes` 1 to 64. Refused if there is too little memory. Own
 /// rule.

@@ -98,8 +98,8 @@ impl fmt::Display for Misplaced<'_> {
     }
 }
 
-/// A word that somebody may have meant by a word of so many letters: it is at most a third of them away, or one
-/// edit. Own rule, as rustc's.
+/// A word that may be meant by a word of this many letters: it is at most a third as many edits away, or one. Own
+/// rule, as rustc's.
 #[derive(Clone, Copy)]
 struct Hint(Option<Near>, usize);
 

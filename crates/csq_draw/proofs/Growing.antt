@@ -1,6 +1,6 @@
 -- How a canvas changes with the elements of a picture.
-use Rattle.std.proofs.Common.{◌≡◌, ℕ, ◌+◌, ◌<◌, ◌≤◌, List, [], ◌∷◌, ◌++◌, take, length, get_or, append_assoc, append-nil, refl, ap, sym, ◌∙◌, arith}
-use Rattle.csq_draw.proofs.Imports.{length-take-le, take_all, take_more, Drew, with_all, each}
+use Rattle.std.proofs.Common.{◌≡◌, ℕ, ◌+◌, ◌<◌, List, [], ◌∷◌, ◌++◌, take, length, get_or, append_assoc, append-nil, refl, ap, sym, ◌∙◌, arith, Result, Ok, Err, OnOk}
+use Rattle.csq_draw.proofs.Imports.{length-take-le, take_more, Drew, with_all, each}
 use Rattle.csq_draw.specs.declared.element.Element.{Element}
 
 module _ {A : Type 0} (f : ℕ → A → List Element) where
@@ -23,13 +23,14 @@ module _ {I : Type 0} (added : I → Element → I) where
 
   module _ {A : Type 0} (f : ℕ → A → List Element) where
     -- one more of them was drawn
-    pub drew_each : (xs : List A) (k : ℕ) (d : A) (old between new : I) → k < length xs → Drew added old between (each f 0 (take k xs)) → Drew added between new (f k (get_or xs k d)) → Drew added old new (each f 0 (take (k + 1) xs))
-    drew_each xs k d old between new lt a b =
+    pub drew_each : (xs : List A) (k : ℕ) (x : A) (old between new : I) → k < length xs → x ≡ get_or xs k x → Drew added old between (each f 0 (take k xs)) → Drew added between new (f k x) → Drew added old new (each f 0 (take (k + 1) xs))
+    drew_each xs k x old between new lt at a b =
         let place : 0 + length (take k xs) ≡ k = omega (arith, length-take-le k xs (omega arith)) in
-        let whole : each f 0 (take (k + 1) xs) ≡ each f 0 (take k xs) ++ f k (get_or xs k d) =
-        ap (λ ys. each f 0 ys) (take_more xs k d lt) ∙ each-last f 0 (take k xs) (get_or xs k d) ∙ ap (λ n. each f 0 (take k xs) ++ f n (get_or xs k d)) place in
-        drew_more old between new (each f 0 (take k xs)) (f k (get_or xs k d)) a b ∙ ap (λ es. with_all added old es) (sym whole)
+        let whole : each f 0 (take (k + 1) xs) ≡ each f 0 (take k xs) ++ f k x =
+        ap (λ ys. each f 0 ys) (take_more xs k x lt ∙ ap (λ y. take k xs ++ y ∷ []) (sym at)) ∙ each-last f 0 (take k xs) x ∙ ap (λ n. each f 0 (take k xs) ++ f n x) place in
+        drew_more old between new (each f 0 (take k xs)) (f k x) a b ∙ ap (λ es. with_all added old es) (sym whole)
 
-    -- all of them were drawn
-    pub drew_all : (xs : List A) (k : ℕ) (old new : I) → length xs ≤ k → Drew added old new (each f 0 (take k xs)) → Drew added old new (each f 0 xs)
-    drew_all xs k old new le a = a ∙ ap (λ ys. with_all added old (each f 0 ys)) (take_all k xs le)
+-- what is so if there is a value is so of one
+pub on_ok : {X E P : Type 0} (r : Result X E) (x : X) → OnOk r P → r ≡ Ok x → P
+on_ok (Ok y) x p is = p
+on_ok (Err e) x p is = absurd (cc is)

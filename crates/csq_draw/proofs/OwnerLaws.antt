@@ -90,7 +90,7 @@ module _ (i j : IrpLife) (p : PassId) (x : Inside) where
   rearmed_fits : (s : Standing) → is_held_by p s ≡ true → Fits i (moved (Rearm j) s p x) None
   rearmed_fits s w = grind arith
 
--- nobody is drawn as the owner of what was completed
+-- no pass is drawn as the owner of what was completed
 over_fits : (i : IrpLife) (s : Standing) (ends : List Made) (o : Option Owner) → DonesAre s ends → ends ≢ [] → Fits i s o → o ≡ None
 over_fits i s ends o d ne f = grind arith
 
@@ -227,7 +227,7 @@ each_owner size E r = record {
   held = λ irps n p. let d = drawn size irps n E r in let is = held_is (present size.first E n) p (owner irps E n) d.0 d.2 in (λ a. d.1.holding_is p ∙ is.0 a, λ b. is.1 (sym (d.1.holding_is p) ∙ b));
 }
 
--- the routine is set of an IRP that is listed and that nobody owes
+-- the routine is set of an IRP that is listed and that no pass owes
 pub routine_is : (size : Size) (irps : ℕ) (E : List Made) → IsRun size E → (n : IrpId) (p : IrpPlace) → IsPlace E (present size.first E n) p → routine_at p (owner irps E n) ≡ armed E (present size.first E n)
 routine_is size irps E r n p is = let d = drawn size irps n E r in go d.0 (is_standing E (present size.first E n) d.0 d.1) d.2 ∙ sym d.1.set_is
   where

@@ -5,7 +5,7 @@ use Rattle.std.specs.Str.Lossy.{utf8_valid_len}
 use Rattle.std.proofs.lemmas.Str.{chars-nil, utf8_valid_len-IsUtf8}
 use Rattle.csq_draw.specs.Characters.{shown, marked, after_mark, characters_within, characters}
 
--- the characters of the front, the mark, and the bytes behind it
+-- the characters of the front, the mark, and the bytes after it
 abbrev front : List ℕ → List ℕ
 front bs = map shown (chars (take (utf8_valid_len bs) bs))
 

@@ -6,10 +6,9 @@ use Rattle.irp_core.specs.declared.refusals.StepRefused.{StepRefused}
 use Rattle.irp_core.specs.declared.step.{Kind.{Kind}, Made.{Made}, Step.{Step}}
 use Rattle.irp_core.specs.Runs.{Size}
 use Rattle.irp_core.specs.Steps.{number, name_of}
-use Rattle.csq_replay.specs.declared.lines.answer.Ended.{Ended}
 use Rattle.csq_replay.specs.declared.schedule.closing.IrpLine.{IrpLine}
 use Rattle.csq_replay.specs.declared.schedule.outcome.{Outcome.{Outcome, TheVariants.{Skipped, Accepted, Stopped}}, Stop.{Stop}}
-use Rattle.csq_replay.specs.Lines.{GrewBy, IsAnswer}
+use Rattle.csq_replay.specs.Lines.{GrewBy}
 use Rattle.csq_replay.specs.Outcomes.{ComesTo}
 use Rattle.csq_replay.specs.Schedule.{Closes, Numbered, run_of}
 use Rattle.csq_explain.specs.declared.line_steps.LineStep.{LineStep}
@@ -118,17 +117,9 @@ abbrev pub EndsAs : Size → Drawn → Option FirstRefusal → EndShown → Type
 EndsAs size d (Some refusal) e = e ≡ broken_end refusal.line refusal.reason (harms_of size.irps d.steps)
 EndsAs size d None e = (reported : List IrpLine) × (at_rest : Bool) × Closes size (run_of d.kept) reported at_rest × (e ≡ close_of size d.kept reported at_rest)
 
--- a line leads on as the execution says, and is then answered nothing
-abbrev pub DrawsLine : Size → PictureView → Drawn → ℕ → List ℕ → List ℕ → Option Drawn → Type 0
-DrawsLine size view d n line text more = (comes : Outcome) × ComesTo size (run_of d.own) line comes × (more ≡ drawn_after size view.wrong d n comes) × IfSome more (λ next. text ≡ [])
-
--- the bytes of a picture aren't told
-abbrev pub DrawsClosing : Size → PictureView → Drawn → List ℕ → Type 0
-DrawsClosing size view d text = Unit {0}
-
--- a schedule is drawn so, in this view
-abbrev pub IsDrawing : Size → PictureView → List ℕ → List ℕ → Ended → Type 0
-IsDrawing size view = IsAnswer (DrawsLine size view) (DrawsClosing size view) new_drawn
+-- a line is noted by a drawing that goes on after refused steps or not: it leads on as the execution says, and is then answered nothing
+abbrev pub NotesLine : Size → Bool → Drawn → ℕ → List ℕ → List ℕ → Option Drawn → Type 0
+NotesLine size wrong d n line text more = (comes : Outcome) × ComesTo size (run_of d.own) line comes × (more ≡ drawn_after size wrong d n comes) × IfSome more (λ next. text ≡ [])
 
 -- a text grew
 abbrev pub Grew : List ℕ → List ℕ → Type 0

@@ -19,7 +19,7 @@ flag_after (Flag i) found spot before = if found == 0 then Some spot else before
 flag_after (Renew i) found spot before = None
 flag_after _ found spot before = before
 
--- who set the cancel routine that is there, after this kind of step: nobody once an exchange has found it
+-- who set the cancel routine that is there, after this kind of step: none once an exchange has found it
 abbrev pub routine_after : Kind → ℕ → Spot → Option Spot → Option Spot
 routine_after (Arm i) found spot before = Some spot
 routine_after (Rearm i) found spot before = Some spot
@@ -28,7 +28,7 @@ routine_after (Take i) found spot before = if found == 1 then None else before
 routine_after (Renew i) found spot before = None
 routine_after _ found spot before = before
 
--- how an IRP's owner came to have it, after this kind of step by a pass inside of x: who claimed it or took it out, and nobody once it is completed or put back
+-- how an IRP's owner came to have it, after this kind of step by a pass inside of x: by a claim or by taking it out; it has no owner once it is completed or put back
 abbrev pub claim_by : Kind → ℕ → Inside → Spot → Option Claim → Option Claim
 claim_by (Take i) found x spot before = if found == 1 then Some (record { spot = spot; by = Cancelling i }) else before
 claim_by (Disarm i) found x spot before = if found == 1 then Some (record { spot = spot; by = x }) else before

@@ -286,7 +286,7 @@ TheShadedPassHasTheLock size W = (w : Numbered) → IsRun size (run_of (w ∷ W)
 abbrev pub IsDrawnAs : ℕ → List Made → IrpLife → PassId → Having → Type 0
 IsDrawnAs irps E i p having = (row : ℕ) × (lane : ℕ) × (owner irps E i.irp ≡ Some (record { name = i; pass = p; having = having; row = row; lane = lane }))
 
--- of every run, who is drawn as the owner of an IRP in its present life is its owner by the run, and so the other way round; and nobody is drawn as its owner in another life
+-- of every run, a pass is drawn as the owner of an IRP in its present life exactly if it is the owner by the run; and none is drawn as its owner in another life
 pub record EachDrawnOwnerOwesOrHolds (first : ℕ) (E : List Made) : Type 0 where
   pub owed : (irps : ℕ) (n : IrpId) (p : PassId) → (IsDrawnAs irps E (present first E n) p Owes) ↔ IsTrue (owes E p (present first E n))
   pub held : (irps : ℕ) (n : IrpId) (p : PassId) → (IsDrawnAs irps E (present first E n) p Holds) ↔ IsTrue (holds E p (present first E n))

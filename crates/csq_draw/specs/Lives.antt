@@ -8,7 +8,7 @@ use Rattle.csq_draw.specs.declared.lives.PastLife.{PastLife}
 use Rattle.csq_draw.specs.declared.rows.Row.{Row}
 use Rattle.csq_draw.specs.Irps.{irp_at}
 
--- whether an IRP of which so much is known was used again after this life: its words are another one's
+-- whether an IRP was used again after this life: by what is known of it, its words are of another one
 abbrev pub was_reused : IrpLife → IrpNow → Bool
 was_reused i now = option_map_or (λ (seen : LastSeen). not (seen.words.name.life.0 == i.life.0)) now.last false
 
@@ -17,7 +17,7 @@ abbrev pub past_of : List IrpNow → Row → Kind → List PastLife
 past_of irps row (Done i) = if was_reused i (irp_at irps i.irp) then record { name = i; pass = row.step.made.pass; line = row.line } ∷ [] else []
 past_of irps row _ = []
 
--- of these rows, in order, if so much is known of the IRPs after all of them
+-- of these rows, in order, by what is known of the IRPs after all of them
 abbrev pub past_lives : List IrpNow → List Row → List PastLife
 past_lives irps [] = []
 past_lives irps (row ∷ rows) = past_of irps row row.step.made.kind ++ past_lives irps rows

@@ -4,7 +4,7 @@ use Rattle.std.specs.Option.{option_map_or}
 use Rattle.irp_core.specs.declared.ids.{IrpId.{IrpId}, PassId.{PassId}}
 use Rattle.irp_core.specs.declared.step.{Kind.{Kind, TheVariants.{Disarm, Take, Out, Done, Rearm}}, Made.{Made}}
 use Rattle.irp_core.specs.Steps.{same_id, name_of}
-use Rattle.csq_draw.specs.declared.owners.{Having.TheVariants.{Owes, Holds}, Owner.{Owner}}
+use Rattle.csq_draw.specs.declared.owners.{Having.{Having, TheVariants.{Owes, Holds}}, Owner.{Owner}}
 use Rattle.csq_draw.specs.Lanes.{lane_for}
 use Rattle.csq_explain.specs.Tables.{table}
 
@@ -12,7 +12,14 @@ use Rattle.csq_explain.specs.Tables.{table}
 abbrev pub is_of_irp : IrpId → Kind → Bool
 is_of_irp n k = option_map_or (λ i. same_id i.irp n) (name_of k) false
 
--- who has an IRP after this kind of step of it, by p on this row: who claimed it or took it out, in this lane, and nobody once it is completed or put back
+-- how the pass of this kind of step has its IRP from then on, if the step claims the IRP or takes it out
+abbrev pub having_after : Kind → ℕ → Option Having
+having_after (Take i) found = if found == 1 then Some Owes else None
+having_after (Disarm i) found = if found == 1 then Some Holds else None
+having_after (Out i) found = Some Holds
+having_after _ found = None
+
+-- who has an IRP after this kind of step of it, by p on this row: the pass that claimed it or took it out, in this lane, and none once it is completed or put back
 abbrev pub owner_by : Kind → ℕ → PassId → ℕ → ℕ → Option Owner → Option Owner
 owner_by (Take i) found p row lane before = if found == 1 then Some (record { name = i; pass = p; having = Owes; row = row; lane = lane }) else before
 owner_by (Disarm i) found p row lane before = if found == 1 then Some (record { name = i; pass = p; having = Holds; row = row; lane = lane }) else before

@@ -12,7 +12,7 @@ use Rattle.csq_explain.specs.Passes.{new_pass_now}
 abbrev pub lock_of : List PassNow → Option PassId
 lock_of passes = option_map (λ n. record { 0 = n }) (position (λ (now : PassNow). has_lock now.inside) passes)
 
--- who has the lock as a step is made: who makes it, if it needs the lock, else who has it before
+-- the pass that has the lock as a step is made: the one that makes it, if it needs the lock, otherwise the one before
 abbrev pub lock_at : Option PassId → Made → Option PassId
 lock_at held m = if needs_lock m.kind then Some m.pass else held
 

@@ -89,12 +89,12 @@ call_elements passes before row _ = []
 abbrev pub words_until : List PassNow → List IrpNow → IrpNow → Row → List Element
 words_until passes irps before row = if is_some row.words then bars_elements (columns passes) (place_named irps row.step.made.kind) row.row false before.last else []
 
--- behind the mark of a step, of whose IRP so much was known before: who has the lock, whose time with the IRP it ends, the words of the IRP until then, and who wrote what it found
+-- behind the mark of a step, by what was known of its IRP before the step: who has the lock, whose time with the IRP it ends, the words of the IRP until then, and who wrote what it found
 abbrev pub behind_elements : List PassNow → List IrpNow → IrpNow → Row → List Element
 behind_elements passes irps before row = shade_elements passes row row.lock ++ (span_elements passes row.row Step row.ended
     ++ (words_until passes irps before row ++ arrow_elements passes row (found_at before row)))
 
--- the row of such a step: the number of its line, what stands behind its mark, its mark, and its call
+-- the row of a step, by the same: the number of its line, what stands behind its mark, its mark, and its call
 abbrev pub row_after : List PassNow → List IrpNow → IrpNow → Row → List Element
 row_after passes irps before row = number_element row ∷ (behind_elements passes irps before row ++ mark_element passes irps row ∷ call_elements passes before row row.legality)
 
@@ -102,7 +102,7 @@ row_after passes irps before row = number_element row ∷ (behind_elements passe
 abbrev pub fresh_irps : List IrpNow → List IrpNow
 fresh_irps irps = replicate (length irps) new_irp
 
--- of these rows, before which so much was known of the IRPs
+-- of these rows, by what was known of the IRPs before them
 abbrev pub rows_elements : List PassNow → List IrpNow → List IrpNow → List Row → List Element
 rows_elements passes irps known [] = []
 rows_elements passes irps known (row ∷ rows) = row_after passes irps (irp_named known row.step.made.kind) row ++ rows_elements passes irps (with_irp known row) rows

@@ -20,11 +20,11 @@ is_wanted None i = true
 abbrev pub shows : Window → Row → Bool
 shows w row = nat_le w.from row.line && option_map_or (λ i. is_wanted w.irp i.irp) (name_of row.step.made.kind) (is_none w.irp)
 
--- how many rows were shown after this one, if n were before it
+-- how many rows are shown up to this one, if n are before it
 abbrev pub next : Window → Row → ℕ → ℕ
 next w row n = if shows w row then n + 1 else n
 
--- for each of these rows, how many before it are shown, if n were before them all
+-- the window position of each of these rows, counting from n
 abbrev pub places : Window → ℕ → List Row → List ℕ
 places w n [] = []
 places w n (row ∷ rows) = n ∷ places w (next w row n) rows

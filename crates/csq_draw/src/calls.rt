@@ -2,8 +2,9 @@
 //! from then on.
 use crate::irps::Claim;
 use crate::layout::{left, top};
+use crate::owners::having_after;
 use csq_explain::{InsertWord, StepInCall};
-use irp_core::{Inside, IrpLife, Kind, Made};
+use irp_core::{Inside, IrpLife, Kind};
 use std::fmt;
 
 /// A completion, and how the IRP was claimed. A cancel and an insert that found the IRP cancelled return after it.
@@ -63,16 +64,6 @@ impl fmt::Display for CallOf {
     }
 }
 
-/// Whether the pass of a step owes its IRP from then on, or holds it: in the words before `it`, or none.
-pub(crate) fn having_now(made: Made) -> Option<&'static str> {
-    match made.kind {
-        Kind::Take(_) if made.found == 1 => Some("owes"),
-        Kind::Disarm(_) if made.found == 1 => Some("holds"),
-        Kind::Out(_) => Some("holds"),
-        _ => None,
-    }
-}
-
 /// The last line in the box of a step: its call, and at the right whether its pass has the IRP from then on.
 #[derive(Clone, Copy)]
 pub(crate) struct CallLine {
@@ -92,7 +83,7 @@ impl fmt::Display for CallLine {
         );
         write!(f, "<text class='s' x='{x}' y='{y}'>{call}</text>")?;
         write!(f, "<text class='s v' x='{end}' y='{y}'>")?;
-        if let Some(having) = having_now(self.step.made) {
+        if let Some(having) = having_after(self.step.made) {
             write!(f, "{having} it now")?;
         }
         write!(f, "</text>")

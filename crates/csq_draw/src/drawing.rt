@@ -325,7 +325,7 @@ impl<A: Allocator + Copy> Drawing<A> {
 impl<A: Allocator + Copy> Answerer<A, Reason> for Drawing<A> {
     ghost use Rattle.csq_explain.specs.Executions.{StopsFor};
     ghost use Rattle.csq_draw.specs.declared.view.PictureView.{PictureView as ViewOf};
-    ghost use Rattle.csq_draw.specs.Drawings.{DrawsLine, DrawsClosing};
+    ghost use Rattle.csq_draw.specs.Drawings.{NotesLine};
 
     ghost Kind = { Size × ViewOf };
 
@@ -333,11 +333,11 @@ impl<A: Allocator + Copy> Answerer<A, Reason> for Drawing<A> {
 
     ghost stands = { λ drawing k d. StandsInView drawing k d };
 
-    ghost answers = { λ k d. DrawsLine k.0 k.1 d };
+    ghost answers = { λ k d. NotesLine k.0 k.1.wrong d };
 
     ghost stops = { λ k d. StopsFor k.0 d.own };
 
-    ghost closes = { λ k d. DrawsClosing k.0 k.1 d };
+    ghost closes = { λ k d text. Unit {0} };
 
     fn answer_line(
         &mut self,

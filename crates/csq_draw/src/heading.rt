@@ -10,7 +10,7 @@ use irp_core::PassId;
 use std::alloc::{AllocError, Allocator};
 use std::fmt;
 
-/// What a picture is, for who can't see it, and the look of all that is drawn, on a light page, on a dark one
+/// What a picture is, for a reader who can't see it, and the look of all that is drawn, on a light page, on a dark one
 /// and in print.
 pub const PICTURE_HEAD: &str = "\
 <desc>Each column is a pass, and time runs downwards. A row is one atomic step: its line in the schedule, \
@@ -77,7 +77,7 @@ impl Head<'_> {
     }
 }
 
-/// The upper edge of a picture, by how much its caption raises it.
+/// How far the caption of a picture raises its upper edge.
 #[derive(Clone, Copy)]
 struct Edge(u64);
 

@@ -37,7 +37,7 @@ pub(crate) struct IrpNow {
     pub(crate) last: Option<LastSeen>,
     /// The step that set its Cancel flag.
     pub(crate) flag: Option<Spot>,
-    /// The step that set its cancel routine, which nobody has taken since.
+    /// The step that set its cancel routine, which no exchange has found since.
     pub(crate) routine: Option<Spot>,
     /// How its owner came to have it, if a pass owes or holds it.
     pub(crate) claim: Option<Claim>,
@@ -136,7 +136,7 @@ fn last_after(row: Row, before: Option<LastSeen>) -> Option<LastSeen>
     }
 }
 
-/// So many IRPs that no step has named.
+/// This number of IRPs that no step has named.
 pub(crate) fn new_irps<A: Allocator>(alloc: A, count: usize) -> Result<Vec<IrpNow, A>, AllocError>
     ensures { IfOk result (λ irps. irps.items ≡ replicate count new_irp) }
 {

@@ -46,7 +46,7 @@ pub fn each_bar_shows_the_words()
 {}
 
 /// In a picture of an order that broke the protocol each step up to the refusal has the mark that it has in the picture
-/// of any schedule with these columns, and each row from the refused step on has one mark, its own.
+/// of any schedule with these columns, and each row from the refused step on has exactly one mark.
 pub fn each_step_of_an_order_has_one_mark()
     ensures { (size : Size) (d : Drawn) (refusal : FirstRefusal)
         → EachStepOfAnOrderHasOneMark size d refusal }
@@ -63,8 +63,8 @@ pub fn each_pass_has_its_column()
     ensures { (size : Size) (W : List Numbered) → EachPassHasItsColumn size W }
 {}
 
-/// In a window just those passes have columns that it shows, in the order of their numbers: who makes a step there, has
-/// the lock at one, or owes or holds an IRP.
+/// In a window just those passes have columns that it shows, in the order of their numbers: those that make a step there,
+/// have the lock at one, or owe or hold an IRP.
 pub fn each_shown_pass_has_its_column()
     ensures { (size : Size) (W : List Numbered) (w : Window)
         → EachShownPassHasItsColumn size W w }

@@ -27,7 +27,7 @@ impl fmt::Display for PastLife {
     }
 }
 
-/// Whether an IRP of which so much is known was used again after this life: its words are another one's.
+/// Whether an IRP was used again after this life: by what is known of it, its words are of another one.
 fn was_reused(name: IrpLife, now: IrpNow) -> bool
     ensures { result ≡ was_reused name now }
 {
@@ -59,7 +59,7 @@ fn push_past<A: Allocator>(
     }
 }
 
-/// The lives that these steps ended, of IRPs that were used again: so much is known of the IRPs after all steps. The
+/// The lives that these steps ended, of IRPs that were used again, by what is known of the IRPs after all steps. The
 /// sentence of an IRP in the end is of its present life, and would leave out how an earlier one ended.
 pub(crate) fn past_lives<A: Allocator>(
     alloc: A,

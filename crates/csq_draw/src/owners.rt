@@ -2,18 +2,40 @@
 ghost use Rattle.std.specs.Prelude.{◌≡◌, ◌<◌, length, replicate, IfOk};
 ghost use Rattle.irp_core.specs.Runs.{OfIrp};
 ghost use Rattle.irp_core.specs.Steps.{number};
-ghost use Rattle.csq_draw.specs.Owners.{owner_after, ended_by};
+ghost use Rattle.csq_draw.specs.Owners.{having_after, owner_after, ended_by};
 ghost use Rattle.csq_draw.specs.Drawings.{owner_in, with_owner};
 
 use crate::lanes::lane_for;
 use irp_core::{IrpLife, Kind, Made, PassId};
 use std::alloc::{AllocError, Allocator};
+use std::fmt;
 
 /// How a pass has an IRP that it claimed.
 #[derive(Clone, Copy)]
 pub(crate) enum Having {
     Owes,
     Holds,
+}
+
+impl fmt::Display for Having {
+    fn fmt<W: fmt::Write>(&self, f: &mut fmt::Formatter<W>) -> fmt::Result {
+        match *self {
+            Having::Owes => write!(f, "owes"),
+            Having::Holds => write!(f, "holds"),
+        }
+    }
+}
+
+/// How the pass of a step has its IRP from then on, if the step claims the IRP or takes it out.
+pub(crate) fn having_after(made: Made) -> Option<Having>
+    ensures { result ≡ having_after made.kind made.found }
+{
+    match made.kind {
+        Kind::Take(_) if made.found == 1 => Some(Having::Owes),
+        Kind::Disarm(_) if made.found == 1 => Some(Having::Holds),
+        Kind::Out(_) => Some(Having::Holds),
+        _ => None,
+    }
 }
 
 /// An IRP, the pass that owes or holds it, the row of the step by which it came to, and the lane of its line.
@@ -26,7 +48,7 @@ pub(crate) struct Owner {
     pub(crate) lane: u32,
 }
 
-/// So many IRPs that nobody owes or holds.
+/// This number of IRPs, none of which has an owner.
 pub(crate) fn new_owners<A: Allocator>(
     alloc: A,
     count: usize,
@@ -46,20 +68,19 @@ fn owner_after(
     ensures { result ≡ owner_after owners.now before made row }
 {
     let pass = made.pass;
-    let (name, having) = match made.kind {
-        Kind::Take(name) if made.found == 1 => (name, Having::Owes),
-        Kind::Disarm(name) if made.found == 1 => (name, Having::Holds),
-        Kind::Out(name) => (name, Having::Holds),
-        Kind::Done(_) | Kind::Rearm(_) => return None,
-        _ => return before,
-    };
-    Some(Owner {
-        name,
-        pass,
-        having,
-        row,
-        lane: lane_for(owners, pass, before),
-    })
+    match (made.kind.name(), having_after(made)) {
+        (Some(name), Some(having)) => Some(Owner {
+            name,
+            pass,
+            having,
+            row,
+            lane: lane_for(owners, pass, before),
+        }),
+        _ => match made.kind {
+            Kind::Done(_) | Kind::Rearm(_) => None,
+            _ => before,
+        },
+    }
 }
 
 /// Whose time with an IRP a step of this kind ends, of the owner before it.

@@ -3,7 +3,6 @@
 ghost use Rattle.std.specs.Prelude.{string_bytes, OnOk};
 ghost use Rattle.csq_draw.specs.Drawings.{Grew};
 
-use crate::calls::having_now;
 use crate::canvas::Canvas;
 use crate::caption::Caption;
 use crate::circles::word_text;
@@ -12,6 +11,7 @@ use crate::ending::Below;
 use crate::extent::Extent;
 use crate::heading::{Head, write_names};
 use crate::marks::{FoundText, Legality, Mark};
+use crate::owners::having_after;
 use crate::view::Format;
 use csq_explain::{PassNow, WordValues};
 use irp_core::PassId;
@@ -46,7 +46,7 @@ struct OwnerCell(Mark);
 impl fmt::Display for OwnerCell {
     fn fmt<W: fmt::Write>(&self, f: &mut fmt::Formatter<W>) -> fmt::Result {
         let made = self.0.step.made;
-        match (self.0.legality, having_now(made)) {
+        match (self.0.legality, having_after(made)) {
             (Legality::Legal, Some(having)) => write!(f, "{} {having} it", made.pass),
             _ => Ok(()),
         }

@@ -25,7 +25,7 @@ pub(crate) fn lock_of(passes: &[PassNow]) -> Option<PassId>
     }
 }
 
-/// Who has the lock as a step is made: who makes it, if it needs the lock, else who has it before.
+/// The pass that has the lock as a step is made: the one that makes it, if it needs the lock, otherwise the one before.
 pub(crate) fn lock_at(held: Option<PassId>, made: Made) -> Option<PassId>
     ensures { result ≡ lock_at held made }
 {

@@ -4,7 +4,7 @@ ghost use Rattle.csq_draw.specs.Elements.{Drew};
 ghost use Rattle.csq_draw.specs.Passes.{columns};
 ghost use Rattle.csq_draw.specs.Pictures.{each, column_elements, word_elements, last_elements, span_elements, open_elements, owners_elements, past_elements, closing_elements, closed_elements, above_elements, shown_by, shown_elements, refused_elements, harm_elements, harms_elements, broken_elements, end_of, picture_of};
 
-use crate::canvas::Canvas;
+use crate::canvas::{Canvas, draw_each};
 use crate::circles::WordColumns;
 use crate::element::Element;
 use crate::ending::{Below, PictureEnd, RestState, count_with};
@@ -46,20 +46,8 @@ fn draw_maker<C: Canvas>(
     out.draw(Element::Column(column))
 }
 
-/// The columns of the passes that make steps.
-fn draw_columns<C: Canvas>(passes: &[PassNow], rows: u32, out: &mut C) -> Result<(), AllocError>
-    requires { length passes.now ≤ 65 }
-    ensures { OnOk result (Drew C.added (C.image out.old) (C.image out.new)
-        (each (column_elements passes.now rows) 0 passes.now)) }
-{
-    for (number, now) in passes.iter().enumerate() {
-        draw_maker(passes, rows, PassId(number as u32), *now, out)?;
-    }
-    Ok(())
-}
-
 /// The words that an IRP has in the end, if a step names it.
-fn draw_last_of<C: Canvas>(
+fn draw_last<C: Canvas>(
     passes: &[PassNow],
     irps: &[IrpNow],
     rows: u32,
@@ -74,24 +62,6 @@ fn draw_last_of<C: Canvas>(
 {
     let (columns, place) = (columns(passes), irp_column(irps, irp));
     draw_bars(columns, place, rows, true, now.last, out)
-}
-
-/// The words that IRPs have in the end, of each that a step names.
-fn draw_last<C: Canvas>(
-    passes: &[PassNow],
-    irps: &[IrpNow],
-    rows: u32,
-    out: &mut C,
-) -> Result<(), AllocError>
-    requires few { length passes.now ≤ 65 }
-    requires irps { length irps.now ≤ 1024 }
-    ensures { OnOk result (Drew C.added (C.image out.old) (C.image out.new)
-        (each (last_elements passes.now irps.now rows) 0 irps.now)) }
-{
-    for (number, now) in irps.iter().enumerate() {
-        draw_last_of(passes, irps, rows, IrpId(number as u32), *now, out)?;
-    }
-    Ok(())
 }
 
 /// The names of the words of an IRP, if a step names it.
@@ -116,19 +86,6 @@ fn draw_name<C: Canvas>(
         irp,
     };
     out.draw(Element::WordColumns(names))
-}
-
-/// The names of the words of all IRPs that a step names.
-fn draw_names<C: Canvas>(passes: &[PassNow], irps: &[IrpNow], out: &mut C) -> Result<(), AllocError>
-    requires few { length passes.now ≤ 65 }
-    requires irps { length irps.now ≤ 1024 }
-    ensures { OnOk result (Drew C.added (C.image out.old) (C.image out.new)
-        (each (word_elements passes.now irps.now) 0 irps.now)) }
-{
-    for (number, now) in irps.iter().enumerate() {
-        draw_name(passes, irps, IrpId(number as u32), *now, out)?;
-    }
-    Ok(())
 }
 
 /// The line of an owner to a row, if there is one that came to have its IRP on an earlier row.
@@ -169,10 +126,11 @@ fn draw_open_all<C: Canvas>(
     ensures { OnOk result (Drew C.added (C.image out.old) (C.image out.new)
         (each (open_elements passes.now to end) 0 owners.now)) }
 {
-    for owner in owners {
-        draw_line(passes, to, end, *owner, out)?;
-    }
-    Ok(())
+    draw_each(
+        owners,
+        |_, owner, out| draw_line(passes, to, end, owner, out),
+        out,
+    )
 }
 
 /// The lines of the owners after all rows: they end where the protocol was broken, if it was.
@@ -203,17 +161,6 @@ fn draw_past<C: Canvas>(
     out.draw(Element::Below(rows, Below::Past(nth, life)))
 }
 
-/// How the earlier lives of IRPs ended.
-fn draw_lives<C: Canvas>(rows: u32, lives: &[PastLife], out: &mut C) -> Result<(), AllocError>
-    ensures { OnOk result (Drew C.added (C.image out.old) (C.image out.new)
-        (each (past_elements rows) 0 lives.now)) }
-{
-    for (nth, life) in lives.iter().enumerate() {
-        draw_past(rows, nth, *life, out)?;
-    }
-    Ok(())
-}
-
 /// Where an IRP is in the end, as the nth line after the first ones below these rows.
 fn draw_ending<C: Canvas>(
     irps: &[IrpNow],
@@ -230,23 +177,6 @@ fn draw_ending<C: Canvas>(
     out.draw(Element::Below(rows, Below::Irp(nth, line, now)))
 }
 
-/// Where each IRP is in the end, below this number of lines.
-fn draw_reported<C: Canvas>(
-    irps: &[IrpNow],
-    rows: u32,
-    first: u32,
-    reported: &[IrpLine],
-    out: &mut C,
-) -> Result<(), AllocError>
-    ensures { OnOk result (Drew C.added (C.image out.old) (C.image out.new)
-        (each (closing_elements irps.now rows first) 0 reported.now)) }
-{
-    for (nth, line) in reported.iter().enumerate() {
-        draw_ending(irps, rows, first, nth, *line, out)?;
-    }
-    Ok(())
-}
-
 /// How the earlier lives of IRPs ended, where each IRP is in the end, and whether all is at rest.
 fn draw_closed<C: Canvas>(
     irps: &[IrpNow],
@@ -261,8 +191,12 @@ fn draw_closed<C: Canvas>(
 {
     let first = count(lives.len())?;
     let nth = count_with(reported.len(), first)?;
-    draw_lives(rows, lives, out)?;
-    draw_reported(irps, rows, first, reported, out)?;
+    draw_each(lives, |nth, life, out| draw_past(rows, nth, life, out), out)?;
+    draw_each(
+        reported,
+        |nth, line, out| draw_ending(irps, rows, first, nth, line, out),
+        out,
+    )?;
     out.draw(Element::Below(rows, Below::AtRest(nth, rest)))?;
     Ok(())
 }
@@ -280,9 +214,21 @@ fn draw_above<C: Canvas>(
         (above_elements passes.now irps.now count)) }
 {
     out.draw(Element::Lines)?;
-    draw_columns(passes, count, out)?;
-    draw_names(passes, irps, out)?;
-    draw_last(passes, irps, count, out)?;
+    draw_each(
+        passes,
+        |number, now, out| draw_maker(passes, count, PassId(number as u32), now, out),
+        out,
+    )?;
+    draw_each(
+        irps,
+        |number, now, out| draw_name(passes, irps, IrpId(number as u32), now, out),
+        out,
+    )?;
+    draw_each(
+        irps,
+        |number, now, out| draw_last(passes, irps, count, IrpId(number as u32), now, out),
+        out,
+    )?;
     Ok(())
 }
 
@@ -335,10 +281,7 @@ fn draw_each_harm<C: Canvas>(rows: u32, harms: &[HarmAt], out: &mut C) -> Result
     ensures { OnOk result (Drew C.added (C.image out.old) (C.image out.new)
         (each (harm_elements rows) 0 harms.now)) }
 {
-    for (nth, harm) in harms.iter().enumerate() {
-        draw_harm(rows, nth, *harm, out)?;
-    }
-    Ok(())
+    draw_each(harms, |nth, harm, out| draw_harm(rows, nth, harm, out), out)
 }
 
 /// What goes wrong at each step, or that nothing does.

@@ -138,7 +138,7 @@ fn draw_found<C: Canvas>(
     draw_arrow(passes, row, found, out)
 }
 
-/// What stands behind the box of a step, of whose IRP so much was known before.
+/// What stands behind the box of a step, by what was known of its IRP before the step.
 fn draw_behind<C: Canvas>(
     passes: &[PassNow],
     irps: &[IrpNow],
@@ -194,7 +194,7 @@ fn draw_mark<C: Canvas>(
     out.draw(Element::Mark(mark))
 }
 
-/// The call that a step is of, of whose IRP so much was known before. From a refusal on nothing is known of calls.
+/// The call that a step is of, by what was known of its IRP before. From a refusal on nothing is known of calls.
 fn draw_call<C: Canvas>(
     passes: &[PassNow],
     before: IrpNow,
@@ -217,7 +217,7 @@ fn draw_call<C: Canvas>(
     out.draw(Element::Call(call))
 }
 
-/// The row of a step, of whose IRP so much was known before.
+/// The row of a step, by what was known of its IRP before.
 fn draw_row<C: Canvas>(
     passes: &[PassNow],
     irps: &[IrpNow],
@@ -237,7 +237,7 @@ fn draw_row<C: Canvas>(
     Ok(())
 }
 
-/// The row of the next step, before which so much was known of the IRPs.
+/// The row of the next step, by what was known of the IRPs before it.
 fn draw_next<C: Canvas>(
     passes: &[PassNow],
     irps: &[IrpNow],

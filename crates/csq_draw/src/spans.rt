@@ -2,16 +2,8 @@
 ghost use Rattle.std.specs.Prelude.{◌≤◌};
 
 use crate::layout::{left, top};
-use crate::owners::{Having, Owner};
+use crate::owners::Owner;
 use std::fmt;
-
-/// What a pass does with an IRP that it has.
-fn having_text(having: Having) -> &'static str {
-    match having {
-        Having::Owes => "owes",
-        Having::Holds => "holds",
-    }
-}
 
 /// How the line of an owner ends.
 #[derive(Clone, Copy)]
@@ -55,7 +47,7 @@ pub(crate) struct Span {
 impl fmt::Display for Span {
     fn fmt<W: fmt::Write>(&self, f: &mut fmt::Formatter<W>) -> fmt::Result {
         let owner = self.owner;
-        let (name, pass, having) = (owner.name, owner.pass, having_text(owner.having));
+        let (name, pass, having) = (owner.name, owner.pass, owner.having);
         let colour = name.irp.0 % 8;
         let lane = left(self.column) + 236 + 5 * u64::from(owner.lane);
         let (from, to) = (top(owner.row) + 30, top(self.to) + line_edge(self.end));

@@ -34,7 +34,7 @@ fn shows(window: Window, row: Row) -> bool
     window.from <= row.line && wanted
 }
 
-/// How many rows were shown, after this one.
+/// How many rows are shown up to this one.
 fn next(window: Window, row: Row, shown: u32) -> Result<u32, AllocError>
     ensures { IfOk result (λ count. count ≡ next window row shown) }
 {
@@ -45,7 +45,7 @@ fn next(window: Window, row: Row, shown: u32) -> Result<u32, AllocError>
     }
 }
 
-/// For each row, how many before it a window shows.
+/// The window position of each row, counting from 0.
 pub(crate) fn places<A: Allocator>(
     alloc: A,
     window: Window,

@@ -10,8 +10,8 @@ use csq_explain::WordValues;
 use irp_core::{IrpLife, IrpPlace, Kind, Machine};
 use std::alloc::Allocator;
 
-/// Whether the routine is set of an IRP at this place, which has this owner: as long as it is listed and nobody
-/// owes it.
+/// Whether the routine is set of an IRP at this place, which has this owner: as long as it is listed and no
+/// pass owes it.
 fn routine_at(place: IrpPlace, owner: Option<Owner>) -> bool
     ensures { result ≡ routine_at place owner }
 {

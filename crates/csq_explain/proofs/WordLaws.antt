@@ -16,7 +16,7 @@ use Rattle.csq_explain.specs.LineSteps.{made_in}
 use Rattle.csq_explain.specs.Laws.{TheWordsAreTheRuns, EachNextStepFindsTheWords}
 use Rattle.csq_explain.specs.WordValues.{words_after, words_with, words_of, clear_words, changed, found_after}
 
--- whoever names the present life of an IRP names it as the run does
+-- a name of the present life of an IRP is the one that the run has
 is_present : (first : ℕ) (E : List Made) (i : IrpLife) (n : IrpId) → i.irp ≡ n → IsPresent first E i → i ≡ present first E n
 is_present first E i n e now = named i (present first E n) (ap (λ (x : IrpId). x.0) e) (now ∙ ap (λ x. present_life first E x) e)
 

@@ -69,7 +69,7 @@ place_words c = []
 abbrev pub none_listed : Option FileId → List ℕ
 none_listed file = codes "no IRP is listed for " ++ (file_words file ++ codes ", or a cancel has each of them")
 
--- no removal takes an IRP of this file object, if there is such a one among so many
+-- no removal takes an IRP of this file object, if its number is below the number of file objects
 abbrev pub none_of : ℕ → Option FileId → List ℕ
 none_of files (Some f) = if nat_le files f.0 then codes "a file object's number is below " ++ decimal files else none_listed (Some f)
 none_of files None = none_listed None
@@ -98,7 +98,7 @@ abbrev pub refused_file : ScriptCall → List ℕ
 refused_file (PutBack n place) = codes "the file object of IRP " ++ irp_text n
 refused_file c = file_words (named_file c)
 
--- why a call that is answered so is refused, if there are so many IRPs and file objects
+-- why a call that is answered so is refused, over this number of IRPs and this number of file objects
 abbrev pub call_refusal : ℕ → ℕ → ScriptCall → Reply → List ℕ
 call_refusal irps files c (InsertRefused insert.UnknownIrp) = codes "an IRP's number is below " ++ decimal irps
 call_refusal irps files c (InsertRefused insert.UnknownFile) = codes "a file object's number is below " ++ decimal files

@@ -49,7 +49,7 @@ GoByWords (x ∷ V) = (x ≡ by_words V x.line x.made.pass x.made.kind) × GoByW
 abbrev pub IsFresh : List LineStep → IrpLife → Type 0
 IsFresh U i = record_after U i.irp ≡ new_record i.irp (life_of i)
 
--- something goes wrong in an order that ends with W, if a law of irp_core is broken in the end of what W did to i: it was completed twice; it was completed, and is listed or armed; it is flagged and listed, and nobody owes it
+-- something goes wrong in an order that ends with W, if a law of irp_core is broken in the end of what W did to i: it was completed twice; it was completed, and is listed or armed; it is flagged and listed, and no pass owes it
 pub record EachBrokenLawIsAHarm (irps : ℕ) (W U : List LineStep) (i : IrpLife) : Type 0 where
   pub twice : 2 ≤ length (dones (made_in W) i) → harms_of irps (W ++ U) ≢ []
   pub gone : dones (made_in W) i ≢ [] → IsTrue (listed (made_in W) i || armed (made_in W) i) → harms_of irps (W ++ U) ≢ []

@@ -17,7 +17,7 @@ use Rattle.csq_explain.specs.Irps.{all_irps, irp_asked}
 use Rattle.csq_explain.specs.Passes.{all_passes, new_pass_now}
 use Rattle.csq_explain.specs.Words.{step_words, listed}
 
--- the pass that a line's end is a matter of: who has the lock, or else who would make the step
+-- the pass that a line's end concerns: the one that has the lock, otherwise the one that would make the step
 abbrev pub pass_asked : Stop → PassId
 pass_asked TooLong = record { 0 = 0 }
 pass_asked Malformed = record { 0 = 0 }

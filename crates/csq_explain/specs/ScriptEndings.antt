@@ -18,11 +18,11 @@ abbrev pub joined_numbers : List IrpId → List ℕ
 joined_numbers [] = []
 joined_numbers (i ∷ is) = irp_text i ++ after_commas is
 
--- so many IRPs of these numbers are listed
+-- `count` IRPs, of these numbers, are listed
 abbrev pub left_words : ℕ → List ℕ → List ℕ
 left_words count numbers = if count == 0 then codes "no IRP is listed" else if count == 1 then codes "IRP " ++ (numbers ++ codes " is listed") else decimal count ++ (codes " IRPs are listed, in this order: " ++ numbers)
 
--- the pass keeps so many IRPs of these numbers so
+-- the pass keeps `count` IRPs, of these numbers, so
 abbrev pub kept_words : Kept → ℕ → List ℕ → List ℕ
 kept_words Held count numbers = if count == 1 then codes "the pass holds IRP " ++ (numbers ++ codes ", and must complete it") else codes "the pass holds IRPs " ++ (numbers ++ codes ", and must complete them")
 kept_words Owed count numbers = if count == 1 then codes "the pass owes IRP " ++ (numbers ++ codes ": its cancel routine must run") else codes "the pass owes IRPs " ++ (numbers ++ codes ": their cancel routines must run")

@@ -21,7 +21,7 @@ in_call E m = record { made = m; inside = inside E m.pass; status = status_at E 
 unfoldable pub status_name : NtStatus → List ℕ
 status_name s = if s.0 == 0 then codes "STATUS_SUCCESS" else if s.0 == 3221225760 then codes "STATUS_CANCELLED" else status_text s
 
--- the status of a completion, as a schedule knows it: for what a removal got it has STATUS_SUCCESS, but there whoever removed it names the status
+-- the status of a completion, as a schedule knows it: of an IRP that a removal got it has STATUS_SUCCESS, though there the caller of the removal chooses the status
 abbrev pub due_status_words : NtStatus → List ℕ
 due_status_words s = if s.0 == 0 then codes "a status that a schedule doesn't name" else status_name s
 

@@ -2,7 +2,7 @@
 use Rattle.std.specs.Prelude.{ℕ, ◌-◌, ◌==◌, List, [], ◌∷◌, ◌++◌, codes, map, if◌then◌else◌}
 use Rattle.csq_explain.specs.declared.words.TheConstants.{STEPS, CALLS}
 
--- the words that begin a step, behind its pass
+-- the words that say what a step does, after its pass
 abbrev pub step_words : List (List ℕ)
 step_words = map (λ word. word.now) STEPS
 
@@ -10,7 +10,7 @@ step_words = map (λ word. word.now) STEPS
 abbrev pub call_words : List (List ℕ)
 call_words = map (λ word. word.now) CALLS
 
--- these words, with a new line behind the nth
+-- these words, with a line feed after the nth
 abbrev pub listed : ℕ → List (List ℕ) → List ℕ
 listed n [] = []
 listed n (w ∷ []) = w

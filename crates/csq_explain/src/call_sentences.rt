@@ -131,7 +131,7 @@ pub struct AnsweredCall {
     pub reply: Reply,
 }
 
-/// Why a removal took no IRP: the one that it names, or any of the file object, if there is such a one.
+/// Why a removal took no IRP: the one that it names, or any of the file object, if that exists.
 #[derive(Clone, Copy)]
 struct NoneWords(AnsweredCall);
 

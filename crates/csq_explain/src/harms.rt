@@ -27,7 +27,7 @@ pub enum Harm {
     OtherLife(IrpLife),
     /// It takes the routine of an IRP that isn't cancelled.
     Stray,
-    /// It sets the routine of this IRP, which is cancelled, and nobody takes it.
+    /// It sets the routine of this IRP, which is cancelled, and no later step takes it.
     Lost(IrpLife),
     /// It completes this IRP, which is in the list in the end.
     StillListed(IrpLife),

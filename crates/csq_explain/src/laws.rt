@@ -34,8 +34,8 @@ pub fn nothing_goes_wrong_at_rest()
     ensures { (size : Size) (V : List LineStep) → IsRun size (made_in V) → NothingGoesWrongAtRest size V }
 {}
 
-/// Of an order that ends with a life completed twice, completed and still listed or armed, or flagged and listed with nobody
-/// who owes it, something is reported.
+/// If an order ends with a life that was completed twice, or was completed and is still listed or armed, or is flagged and
+/// listed and owed by no pass, something is reported.
 pub fn each_broken_law_is_a_harm()
     ensures { (irps : ℕ) (W U : List LineStep) → BrokenLawsAreHarms irps W U }
 {}

@@ -24,7 +24,7 @@ pub struct Reason {
     pub irp: IrpState,
 }
 
-/// The pass that a line's end is a matter of: who has the lock, or else who would make the step.
+/// The pass that a line's end concerns: the one that has the lock, otherwise the one that would make the step.
 pub(crate) fn pass_asked(stop: Stop) -> PassId
     ensures { result ≡ pass_asked stop }
 {

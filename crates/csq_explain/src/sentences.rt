@@ -36,8 +36,8 @@ impl fmt::Display for StatusName {
     }
 }
 
-/// The status of a completion, as a schedule knows it. For what a removal got it has STATUS_SUCCESS, but there
-/// whoever removed it names the status.
+/// The status of a completion, as a schedule knows it. Of an IRP that a removal got it has STATUS_SUCCESS, though there
+/// the caller of the removal chooses the status.
 #[derive(Clone, Copy)]
 pub struct DueStatus(pub NtStatus);
 

@@ -1,6 +1,6 @@
 //! The words that begin the lines of schedules and scripts.
 
-/// The words that begin a step, behind its pass.
+/// The words that say what a step does, after its pass.
 pub const STEPS: [&str; 10] = [
     "arm", "test", "disarm", "end", "flag", "take", "out", "done", "renew", "rearm",
 ];

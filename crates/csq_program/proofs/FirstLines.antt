@@ -52,7 +52,7 @@ lines_first zero bytes = refl
 lines_first (suc n) [] = refl
 lines_first (suc n) (byte ∷ bytes) = line_step n byte bytes (byte == 10) refl (lines_first (cond (byte == 10) n (suc n)) bytes)
 
--- so many lines were asked for, and so many are left at a byte
+-- of `count` lines that were asked for, `left` are left at a byte
 abbrev pub IsLeftAt : ℕ → List ℕ → ℕ → ℕ → Type 0
 IsLeftAt count text at left = first_lines count text ≡ take at text ++ first_lines left (drop at text)
 

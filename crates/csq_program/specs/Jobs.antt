@@ -104,7 +104,7 @@ pub record AreCrossed (options : ArgMatches) (from to : ℕ) : Type 0 where
   pub to_is : IsGivenNumber options (codes "to") 1 1048577 (Some to)
   pub above : to < from
 
--- the options ask for the steps of an IRP that isn't below so many
+-- the options ask for the steps of an IRP whose number isn't below the number of IRPs
 pub record IsNoIrp (options : ArgMatches) (irp irps : ℕ) : Type 0 where
   pub irp_is : IsGivenNumber options (codes "irp") 0 1023 (Some irp)
   pub irps_are : IsNumberOption options (codes "irps") 1024 8 irps

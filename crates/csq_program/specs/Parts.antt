@@ -19,7 +19,7 @@ window_of (Some from) (Some irp) = Some (record { from = from; irp = Some (recor
 abbrev pub AreInOrder : Option ℕ → Option ℕ → Type 0
 AreInOrder from to = IfSome from (λ first. IfSome to (λ last. first ≤ last))
 
--- a part of a schedule over so many IRPs, up to this line if one is named
+-- a part of a schedule over this number of IRPs, up to this line if one is named
 pub record IsPart (irps : ℕ) (window : Option Window) (to : Option ℕ) : Type 0 where
   pub begins : IfSome window (λ w. (1 ≤ w.from) × (w.from ≤ 1048577))
   pub ends : IfSome to (λ line. (1 ≤ line) × (line ≤ 1048577))

@@ -12,8 +12,7 @@ use Rattle.csq_replay.specs.Inputs.{ReadsInput}
 use Rattle.csq_explain.specs.Executions.{StopsFor}
 use Rattle.csq_explain.specs.Explaining.{IsScheduleText}
 use Rattle.csq_explain.specs.ExplainingCalls.{IsScriptText}
-use Rattle.csq_draw.specs.declared.view.PictureView.{PictureView}
-use Rattle.csq_draw.specs.Drawings.{DrawsClosing, DrawsLine, IsDrawing, new_drawn}
+use Rattle.csq_draw.specs.Drawings.{NotesLine, new_drawn}
 use Rattle.csq_diagnose.specs.declared.diagnosed.Report.{Report}
 use Rattle.csq_diagnose.specs.Diagnoses.{IsScriptDiagnosis}
 use Rattle.csq_diagnose.specs.Reports.{IsReport, IsReportUntil}
@@ -46,10 +45,10 @@ IsReplayReport size claims explains false = IsScheduleReport size claims explain
 abbrev pub IsScriptReport : {A : Type 0} → Limits → Bool → List ℕ → Report A → Type 0
 IsScriptReport limits explains = IsReport (IsScriptText explains limits) IsScriptDiagnosis
 
--- a schedule is drawn so in this view, with its diagnosis, which if the drawing ends at the first refused step is the schedule's
-pub record IsDrawnReport {A : Type 0} (size : Size) (view : PictureView) (input : List ℕ) (report : Report A) : Type 0 where
-  pub drawn : IsReportUntil (DrawsLine size view) (λ d. StopsFor size d.own) (DrawsClosing size view) ReportsReason new_drawn input report
-  pub kept : view.wrong ≡ false → IsReport (IsDrawing size view) (IsScheduleDiagnosis size) input report
+-- a report says how the drawing of a schedule ended, and has the diagnosis of that, which is the schedule's if the drawing ends at the first refused step; what the picture is isn't said, only that nothing was written before the end
+pub record ReportsDrawingEnd {A : Type 0} (size : Size) (wrong : Bool) (input : List ℕ) (report : Report A) : Type 0 where
+  pub ends : IsReportUntil (NotesLine size wrong) (λ d. StopsFor size d.own) (λ d text. Unit {0}) ReportsReason new_drawn input report
+  pub kept : wrong ≡ false → IsScheduleDiagnosis size input (string_bytes report.diagnosis) report.ended
 
 -- what is reported of an input up to the line that is named, if one is
 abbrev pub IsCutReport : {A : Type 0} → Option ℕ → (List ℕ → Report A → Type 0) → List ℕ → Report A → Type 0
@@ -93,6 +92,6 @@ WritesScript l explains held holds status = WritesReport (IsScriptReport (script
 -- of a writer whose bytes are known: a job's answer was written, and this is its status
 abbrev pub WritesJob : Job → Option (List ℕ) → Option (List ℕ) → ℕ → Type 0
 WritesJob (Schedule source irps passes claims explain wrong) held holds = WritesReport (IsReplayReport (record { irps = irps; passes = passes; first = 0 }) claims explain wrong) held holds
-WritesJob (Draw source irps passes view to) held holds = WritesReport (IsCutReport to (IsDrawnReport (record { irps = irps; passes = passes; first = 0 }) view)) held holds
+WritesJob (Draw source irps passes view to) held holds = WritesReport (IsCutReport to (ReportsDrawingEnd (record { irps = irps; passes = passes; first = 0 }) view.wrong)) held holds
 WritesJob (Script source irps files limit file_limit list explain) held holds = WritesScript (limits_or_all irps files limit file_limit) explain held holds
 WritesJob (Run plan list totals repeat) held holds = λ status. WritesRuns plan totals repeat held holds × (status ≡ 0)

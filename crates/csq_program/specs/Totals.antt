@@ -22,7 +22,7 @@ line_if true words n = line words n
 abbrev pub totals_text : Totals → List ℕ
 totals_text t = line (codes "irps ") t.irps ++ line (codes "accounted ") (t.home + t.listed + t.handed) ++ line (codes "cancelled and listed ") t.flagged_listed
 
--- the lines of a run over so many IRPs: each is accounted for, and none is both cancelled and listed
+-- the lines of a run over this number of IRPs: each is accounted for, and none is both cancelled and listed
 abbrev pub run_text : ℕ → List ℕ
 run_text irps = line (codes "irps ") irps ++ line (codes "accounted ") irps ++ line (codes "cancelled and listed ") 0
 
@@ -51,7 +51,7 @@ abbrev pub time_text : Option Duration → List ℕ
 time_text (Some took) = codes "milliseconds " ++ (decimal (as_nanos took / 1_000_000) ++ (codes "." ++ (three_digits (as_nanos took / 1_000 % 1_000) ++ codes "\n")))
 time_text None = codes "milliseconds unknown\n"
 
--- the further lines of a run that is reported with its totals, which has busy workers or none
+-- the extra lines of a run that is reported with its totals, with or without busy workers
 abbrev pub counts_text : Bool → Totals → Option Duration → List ℕ
 counts_text busy t took = states_text t ++ completions_text busy t ++ calls_text busy t ++ time_text took
 
@@ -86,12 +86,12 @@ IsRunText plan true text = (t : Totals) × (took : Option Duration) × AreTotals
 abbrev pub WritesRun : Plan → Bool → Option (List ℕ) → Option (List ℕ) → Type 0
 WritesRun plan totals old new = (text : List ℕ) × IsRunText plan totals text × Appends old new text
 
--- what is reported for so many runs, one after the other
+-- what is reported for n runs, one after the other
 abbrev pub AreRunTexts : Plan → Bool → ℕ → List ℕ → Type 0
 AreRunTexts plan totals zero text = text ≡ []
 AreRunTexts plan totals (suc n) text = (before : List ℕ) × (last : List ℕ) × AreRunTexts plan totals n before × IsRunText plan totals last × (text ≡ before ++ last)
 
--- known bytes grow by what is reported for so many runs
+-- known bytes grow by what is reported for n runs
 abbrev pub WritesRuns : Plan → Bool → ℕ → Option (List ℕ) → Option (List ℕ) → Type 0
 WritesRuns plan totals n old new = (text : List ℕ) × AreRunTexts plan totals n text × Appends old new text
 

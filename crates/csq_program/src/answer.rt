@@ -8,7 +8,7 @@ ghost use Rattle.csq_replay.specs.Schedule.{RepliesToSchedule};
 ghost use Rattle.csq_replay.specs.ScriptAnswer.{RepliesToScript};
 ghost use Rattle.csq_diagnose.specs.Schedules.{IsWrongReport};
 ghost use Rattle.csq_program.specs.Cuts.{drawn_input};
-ghost use Rattle.csq_program.specs.Replays.{AnswersInput, IsScheduleReport, IsScriptReport, IsDrawnReport, IsCutReport};
+ghost use Rattle.csq_program.specs.Replays.{AnswersInput, IsScheduleReport, IsScriptReport, ReportsDrawingEnd, IsCutReport};
 
 use crate::cut::cut_input;
 use csq_diagnose::{Report, report_input, report_schedule, report_script, report_wrong_order};
@@ -101,7 +101,7 @@ fn report_drawing<A: Allocator + Copy>(
     input: &[u8],
 ) -> Result<Report<A>, AllocError>
     requires { IsInLimits (record { irps = irps; passes = passes; first = 0 }) }
-    ensures { IfOk result (IsDrawnReport (record { irps = irps; passes = passes; first = 0 }) view
+    ensures { IfOk result (ReportsDrawingEnd (record { irps = irps; passes = passes; first = 0 }) view.wrong
         (drawn_input to input.now)) }
 {
     let mut drawing = Drawing::new(alloc, irps, passes, view)?;
@@ -121,7 +121,7 @@ pub fn write_drawing<A: Allocator + Copy, R: Read, W: Write>(
 ) -> Result<Report<A>, SimFault>
     requires { IsInLimits (record { irps = irps; passes = passes; first = 0 }) }
     ensures answered { IfOk result (AnswersInput (IsCutReport to
-        (IsDrawnReport (record { irps = irps; passes = passes; first = 0 }) view))
+        (ReportsDrawingEnd (record { irps = irps; passes = passes; first = 0 }) view.wrong))
         (R.remaining reader.old) (R.remaining reader.new)
         (W.contents writer.old) (W.contents writer.new)) }
     ensures unwritten { IfErr result (λ fault. fault ≢ SimFault.Write

@@ -22,7 +22,7 @@ use thiserror::Error;
 #[derive(Clone, Copy, Debug, PartialEq, Eq)]
 pub enum Job<'a> {
     /// To replay a schedule over this many IRPs and passes, and to report its claims and explain each line
-    /// of the answer, or not; or to go on behind a step that the protocol refuses.
+    /// of the answer, or not; or to go on after a step that the protocol refuses.
     Schedule {
         source: Source<'a>,
         irps: u32,
@@ -51,7 +51,7 @@ pub enum Job<'a> {
         list: ListKind,
         explain: bool,
     },
-    /// To run so many devices of this plan, one after the other, and to report all totals of each or not.
+    /// To run `repeat` devices of this plan, one after the other, and to report all totals of each or not.
     /// The lists are of this kind.
     Run {
         plan: Plan,
@@ -73,7 +73,7 @@ pub enum CommandFault {
     /// 3: it asks for more busy workers than the other threads leave passes for.
     #[error(transparent)]
     BusyWorkers(#[from] TooManyBusyWorkers),
-    /// 4: it has a picture begin behind the line that it ends with.
+    /// 4: it has a picture begin after the line that it ends with.
     #[error(transparent)]
     Crossed(#[from] CrossedLines),
     /// 5: it asks for the steps of an IRP that there isn't.
@@ -392,7 +392,7 @@ fn script_job<'a>(options: &ArgMatches<'a>) -> Job<'a>
     }
 }
 
-/// What the command of this name is asked to do; `schedule` is the one that is left. A `run` is refused if it
+/// What the command of this name is asked to do; the remaining command is `schedule`. A `run` is refused if it
 /// has too many busy workers, and a `draw` if its lines are crossed or its IRP isn't there.
 fn job_of<'a>(name: &str, options: &ArgMatches<'a>) -> Result<Job<'a>, CommandFault>
     ensures range { IfOk result IsInRange }
@@ -417,7 +417,7 @@ fn job_of<'a>(name: &str, options: &ArgMatches<'a>) -> Result<Job<'a>, CommandFa
 ///
 /// Refused: 1 Memory; 2 Refused, with `clap`'s error, which also carries the help that was asked for; 3
 /// BusyWorkers, if a run has more of these than the other threads leave passes for; 4 Crossed, if a picture
-/// begins behind the line that it ends with; 5 NoSuchIrp, if it is of the steps of an IRP that there isn't.
+/// begins after the line that it ends with; 5 NoSuchIrp, if it is of the steps of an IRP that there isn't.
 /// Own rule.
 pub fn read_command<'a, S: AsStr>(alloc: Global, words: &'a [S]) -> Result<Job<'a>, CommandFault>
     ensures { IfOk result IsInRange }

@@ -6,7 +6,7 @@ ghost use Rattle.csq_program.specs.Cuts.{drawn_input, first_lines};
 
 use csq_replay::MAX_INPUT;
 
-/// The first lines of a text, so many of them: all, if it has fewer.
+/// The first `count` lines of a text: all, if it has fewer.
 fn first_lines(text: &[u8], count: u32) -> &[u8]
     ensures bytes { result.now ≡ first_lines count text.now }
     ensures lines { lines_of result.now ≡ take count (lines_of text.now) }

@@ -151,7 +151,7 @@ where
     }
 }
 
-/// Runs so many devices of this plan, one after the other, each over a fresh list of this kind, and writes
+/// Runs `repeat` devices of this plan, one after the other, each over a fresh list of this kind, and writes
 /// of each what `answer_run` writes. The first fault ends it, which is as there, or Memory if there is
 /// too little for a list; unless the writer gave it, what was written is all of the devices before.
 pub(crate) fn answer_runs<R, W>(

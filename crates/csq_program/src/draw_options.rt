@@ -18,7 +18,7 @@ use std::fmt;
 /// The heading under which the options are listed that draw a part of a schedule.
 const PART: &str = "Part";
 
-/// The last line that may be named: one behind all that an input has.
+/// The last line that may be named: one more than an input can have.
 const LAST_LINE: u32 = 1_048_577;
 
 /// The command with an option that names a line.
@@ -66,11 +66,11 @@ pub(crate) fn draw_command<'a>(alloc: Global) -> Result<Command<'a>, AllocError>
         "from",
         "Begins with this line, 1 to 1048577",
     )?;
-    let command = with_line(alloc, command, "to", "Ends behind this line, 1 to 1048577")?;
+    let command = with_line(alloc, command, "to", "Ends after this line, 1 to 1048577")?;
     with_irp(alloc, command)
 }
 
-/// A picture is to begin behind the line that it ends with. Own rule.
+/// A picture was to begin after the line that it ends with. Own rule.
 #[derive(Clone, Copy, Debug, PartialEq, Eq, thiserror::Error)]
 #[error("--from {from} is above --to, {to}")]
 pub struct CrossedLines {
@@ -134,7 +134,7 @@ fn lines_in(options: &ArgMatches<'_>) -> Result<(Option<u32>, Option<u32>), Cros
     }
 }
 
-/// The IRP of whose steps a picture is, where one is named, if there are so many IRPs.
+/// The IRP whose steps are drawn, if one is named. Refused if its number isn't below the number of IRPs.
 fn irp_in(options: &ArgMatches<'_>, irps: u32) -> Result<Option<u32>, NoSuchIrp>
     requires irps { IsNumberOption options.now (codes "irps") 1024 8 irps }
     ensures below { IfOk result (λ irp. IfSome irp (λ n. n < irps)) }

@@ -3,16 +3,16 @@ use csq_device::{Gate, Plan, Point};
 use std::sync::atomic::{AtomicU64, Ordering};
 use std::thread::yield_now;
 
-/// At one point of so many, the thread there waits for others.
+/// At one point in this many, the thread there waits for others.
 const ONE_IN: u64 = 4;
 
-/// It waits until so many points more were reached.
+/// It waits until this many more points were reached.
 const LEAD: u64 = 16;
 
 /// The cleanup waits for more, so that there is something to clean up.
 const CLEANUP_LEAD: u64 = 64;
 
-/// After so many points nobody waits, so that a run of many turns takes hardly longer.
+/// After this many points no thread waits, so that a run of many turns takes hardly longer.
 const MOST_POINTS: u64 = 1_024;
 
 /// How often a thread that waits yields the processor at most.
@@ -22,7 +22,7 @@ const MOST_YIELDS: u32 = 32;
 const MOST_YIELDS_ONCE: u32 = 1_000;
 
 /// Lets the threads of a device race: they start together, and at some points a thread that is ahead waits
-/// until others have come further. A wait ends after so many yields of the processor in any case, since the
+/// until others have come further. A wait ends after a number of yields of the processor in any case, since the
 /// others may have ended, or were never started. Own rule.
 #[derive(Drop)]
 pub(crate) struct Race {
@@ -41,7 +41,7 @@ impl Race {
         }
     }
 
-    /// Waits until so many points were reached in all, or for so many yields.
+    /// Waits until `points` points were reached in all, but for at most `most_yields` yields.
     fn wait_for(&self, points: u64, most_yields: u32) {
         for _yield in 0..most_yields {
             if self.reached.load(Ordering::SeqCst) >= points {

@@ -45,12 +45,12 @@ put-back or a removal has the queue's lock from its first step to its last, an
 out or a renew for its one step (a renew changes the queue too); flag, take and
 done need none.
 
-Who finds the routine by a disarm or a take claims the IRP, and will complete
-it: after a take the pass owes the IRP until its out, and then holds it; after a
-disarm it holds it at once. What a removal got is done with STATUS_SUCCESS or is
-put back, and what a cancel, an insert or a put-back got is done with
-STATUS_CANCELLED. Flag and routine stand for one life, so a late take finds none
-of the next. An IRP is home until its arm.
+A pass that finds the routine by a disarm or a take claims the IRP, and will
+complete it: after a take it owes the IRP until its out, and then holds it;
+after a disarm it holds it at once. What a removal got is done with
+STATUS_SUCCESS or is put back, and what a cancel, an insert or a put-back got is
+done with STATUS_CANCELLED. Flag and routine stand for one life, so a late take
+finds none of the next. An IRP is home until its arm.
 
 The answer is each line with the value that its step found: the flag or the
 routine that was there before, 1 or 0, and 0 of a step that looks at neither.
@@ -165,7 +165,7 @@ goes wrong. With --text a ! stands in the place of the lock at the refused step,
 and a ? after it.
 
 A part of a long schedule is drawn with --from, --to and --irp. The steps of
-lines before that of --from are made, but not drawn. The schedule ends behind
+lines before that of --from are made, but not drawn. The schedule ends after
 the line of --to, as if none came after it. With --irp the steps of other IRPs
 are made, but not drawn; those of this IRP are drawn in each of its lives. A
 line of a pass that had the IRP before begins with the first row, and no arrow,
@@ -324,7 +324,7 @@ The counts of completions sum to completed; inserts are --submitters times
 IRPs: that is proved too. Each removal that finds an IRP is a completion by a
 worker, and each cancel that takes the routine is one by a canceller.
 
-With --repeat so many devices run, one after the other, each with a fresh queue,
+With --repeat N, N devices run, one after the other, each with a fresh queue,
 and the lines of each are written, from irps on. The first fault ends it.
 
 Exit status: 0 if the lines were written; 2 if the command line is

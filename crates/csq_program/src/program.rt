@@ -37,7 +37,7 @@ pub enum ProgramFault {
 }
 
 impl ProgramFault {
-    /// Whether the reader of standard output has closed it: there is nobody to tell.
+    /// Whether the reader of standard output has closed it, so that nothing can be reported to it.
     fn is_closed_pipe(&self) -> bool {
         match self {
             ProgramFault::Write(cause) => cause.kind() == ErrorKind::BrokenPipe,

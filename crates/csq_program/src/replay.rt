@@ -6,7 +6,7 @@ ghost use Rattle.irp_core.specs.declared.refusals.SizeRefused.TheVariants.{BadSi
 ghost use Rattle.csq_list.specs.Listing.{IsFresh};
 ghost use Rattle.csq_words.specs.Queue.{limits_of};
 ghost use Rattle.csq_program.specs.declared.program.ProgramFault.TheVariants.{Replay};
-ghost use Rattle.csq_program.specs.Replays.{limits_or_all, IsWriteFault, IsReplayReport, IsCutReport, IsDrawnReport, IsScriptReport, LeadsTo, WritesReport, WritesScript};
+ghost use Rattle.csq_program.specs.Replays.{limits_or_all, IsWriteFault, IsReplayReport, IsCutReport, IsScriptReport, ReportsDrawingEnd, LeadsTo, WritesReport, WritesScript};
 
 use crate::answer::{write_drawing, write_schedule, write_script, write_wrong_order};
 use crate::program::{ProgramFault, REFUSED};
@@ -69,7 +69,7 @@ pub(crate) fn run_drawing<R: AllocGlobal + Eprint + Input + Files, W: Write>(
 ) -> Result<u8, ProgramFault>
     requires { IsInLimits (record { irps = irps; passes = passes; first = 0 }) }
     ensures answered { IfOk result (WritesReport (IsCutReport to
-        (IsDrawnReport (record { irps = irps; passes = passes; first = 0 }) view))
+        (ReportsDrawingEnd (record { irps = irps; passes = passes; first = 0 }) view.wrong))
         (W.contents writer.old.stream) (W.contents writer.new.stream)) }
     ensures unwritten { IfErr result (λ fault. ¬ IsWriteFault fault
         → Keeps (W.contents writer.old.stream) (W.contents writer.new.stream)) }

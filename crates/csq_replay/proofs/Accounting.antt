@@ -1,6 +1,6 @@
 -- Each IRP that an insert accepted is accounted for.
 use Rattle.std.proofs.Common.{◌≡◌, ℕ, Bool, true, false, cond, not, ◌&&◌, ◌||◌, ◌==◌, ◌⊎◌, inl, inr, List, [], ◌∷◌, Option, Some, None, refl, ap, sym, ◌∙◌, subst}
-use Rattle.csq_replay.proofs.Imports.{or_left, or_right, and_parts, not-true, or-false, and-false, FileId, IrpId, NtStatus, CANCELLED, Kind, Arm, Test, Disarm, End, Flag, Take, Out, Done, Renew, Rearm, Made, same_irp, same_pass, IrpLife, bit, armed, holds, same_irp-refl, same_irp-eq, same_pass-refl, status_recorded, Place, Peek, File, InsertStatus, matches, Queued, Limits, plain_listing, refusal, reply_to_insert, first_unmarked, has_irp, has_entry, has_unmarked, has_marked, marking, without, new_entry, ScriptCall, Next, Mark, Routine, Complete, Close, Reply, Removed, NoIrp, Claimed, Unclaimed, Completed, Closed, Script, script_pass, new_script, present_of, after_reuse, next_step, after_steps, removal_steps, named_removal_steps, doing, completing, after_mark, Calls, Cleans, Does, refuses_insert, lists, cancels_insert, removes_next, removes, removes_none, claims, claims_none, runs_routine, has_no_claim, completes, holds_none, refuses_pending, refuses_put_back, puts_back, cancels_put_back, closes, is_stale, reuses, not_completed, lives_spent, reports_flag, reports_status, knows_no_irp, knows_no_file, none_left, one_more, calls, cancel_claimed, cancel_unclaimed, cleaned, LeadTo, AreMarked}
+use Rattle.csq_replay.proofs.Imports.{by_test, by_value, or_left, or_right, and_parts, not-true, or-false, and-false, FileId, IrpId, NtStatus, CANCELLED, Kind, Arm, Test, Disarm, End, Flag, Take, Out, Done, Renew, Rearm, Made, same_irp, same_pass, IrpLife, bit, armed, holds, same_irp-refl, same_irp-eq, same_pass-refl, status_recorded, Place, Peek, File, InsertStatus, matches, Queued, Limits, plain_listing, refusal, reply_to_insert, first_unmarked, has_irp, has_entry, has_unmarked, has_marked, marking, without, new_entry, ScriptCall, Next, Mark, Routine, Complete, Close, Reply, Removed, NoIrp, Claimed, Unclaimed, Completed, Closed, Script, script_pass, new_script, present_of, after_reuse, next_step, after_steps, removal_steps, named_removal_steps, doing, completing, after_mark, Calls, Cleans, Does, refuses_insert, lists, cancels_insert, removes_next, removes, removes_none, claims, claims_none, runs_routine, has_no_claim, completes, holds_none, refuses_pending, refuses_put_back, puts_back, cancels_put_back, closes, is_stale, reuses, not_completed, lives_spent, reports_flag, reports_status, knows_no_irp, knows_no_file, none_left, one_more, calls, cancel_claimed, cancel_unclaimed, cleaned, LeadTo, AreMarked}
 use Rattle.csq_list.specs.declared.refusals.InsertStatus.TheVariants.{NotHome}
 use Rattle.csq_list.proofs.Causes.{no_cause}
 use Rattle.csq_words.specs.declared.views.InsertReply.{InsertReply}
@@ -39,20 +39,14 @@ holds_more E k i n h = h
 
 -- what an IRP was completed with stays, and one more is completed
 reported_more : (completed : List Completion) (j : IrpLife) (status : NtStatus) (i : IrpLife) → (x : NtStatus) × (status_recorded i completed ≡ Some x) → (x : NtStatus) × (status_recorded i (record { irp = j; status = status } ∷ completed) ≡ Some x)
-reported_more completed j status i h = go (same_irp j i)
-  where
-    go : (b : Bool) → (x : NtStatus) × (cond b (Some status) (status_recorded i completed) ≡ Some x)
-    go true = (status, refl)
-    go false = h
+reported_more completed j status i h = by_value (λ b. (x : NtStatus) × (cond b (Some status) (status_recorded i completed) ≡ Some x)) (same_irp j i)
+    (λ _. (status, refl))
+    (λ _. h)
 
 -- a completion keeps all accounted for
 done_accounted : (s : Script) (j : IrpLife) (status : NtStatus) (i : IrpLife) → Accounted s i → Accounted (completing j status s) i
 done_accounted s j status i (inl h) = inl h
-done_accounted s j status i (inr (inl h)) = go (same_irp j i) refl
-  where
-    go : (b : Bool) → same_irp j i ≡ b → Accounted (completing j status s) i
-    go true e = inr (inr (status, rw e refl))
-    go false e = inr (inl (rw (e, h) refl))
+done_accounted s j status i (inr (inl h)) = by_test (same_irp j i) (λ e. inr (inr (status, rw e refl))) (λ e. inr (inl (rw (e, h) refl)))
 done_accounted s j status i (inr (inr h)) = inr (inr (reported_more s.completed j status i h))
 
 pub done_accounts : (s : Script) (j : IrpLife) (status : NtStatus) → Accounts s → Accounts (completing j status s)
@@ -64,11 +58,7 @@ done_accounts s j status a = record {
 
 -- what isn't used isn't listed
 unused_unlisted : (s : Script) → Accounts s → (i : IrpLife) → has_irp s.queue.used i ≡ false → has_entry s.queue.entries i ≡ false
-unused_unlisted s a i none = go (has_entry s.queue.entries i) refl
-  where
-    go : (b : Bool) → has_entry s.queue.entries i ≡ b → b ≡ false
-    go false e = refl
-    go true e = let used = a.used i e in absurd (cc (used, none))
+unused_unlisted s a i none = by_value (λ b. b ≡ false) (has_entry s.queue.entries i) (λ e. let used = a.used i e in absurd (cc (used, none))) (λ _. refl)
 
 -- the entries after a removal that answers this
 abbrev left_after : Option IrpLife → List Queued → List Queued
@@ -76,11 +66,9 @@ left_after None es = es
 left_after (Some i) es = without i es
 
 stays_apart : (i : IrpLife) (es : List Queued) (j : IrpLife) → has_entry (without i es) j ≡ true → same_irp i j ≡ false
-stays_apart i es j there = go (same_irp i j) (sym (has_entry-without i es j) ∙ there)
-  where
-    go : (b : Bool) → (not b && has_entry es j) ≡ true → b ≡ false
-    go true h = absurd cc
-    go false h = refl
+stays_apart i es j there = by_value (λ b. (not b && has_entry es j) ≡ true → b ≡ false) (same_irp i j)
+    (λ _ h. absurd cc)
+    (λ _ h. refl) (sym (has_entry-without i es j) ∙ there)
 
 -- one Disarm: of an IRP without its routine, or of one that leaves
 marks_miss : (E : List Made) (i : IrpLife) (es : List Queued) → armed E i ≡ false → AreMarked E es → AreMarked (next_step E (Disarm i)) es

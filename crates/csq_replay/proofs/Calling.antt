@@ -1,6 +1,6 @@
 -- What a driver keeps after a call.
 use Rattle.std.proofs.Common.{◌≡◌, ℕ, ◌<◌, Bool, true, false, cond, not, ◌==◌, List, [], ◌∷◌, length, Option, Some, None, refl, ap, sym, ◌∙◌, subst, arith}
-use Rattle.csq_replay.proofs.Imports.{slice_index_or, slice_set, get_or-set_same, get_or-set_other, length-set, FileId, IrpId, NtStatus, PENDING, Take, Out, Done, Made, IrpPlace, IsPlace, number, same_id, same_irp, same_pass, IrpLife, bit, armed, flagged, owes, holds, listed, dones, present, Size, IsRun, MachineState, Agrees, size_of, same_id-eq, same_id-ne, same_irp-refl, same_irp-eq, same_irp-ne, same_pass-refl, same_pass-eq, status_recorded, is_listed, Listing, with_closed, without_irp, Limits, with_file, after_event, has_entry, has_marked, has_unmarked, id_eq, is_listed-plain, listing-removed, listing-marked, ScriptCall, UnknownIrp, UnknownFile, NoClaim, NotHeld, StatusPending, Stale, Claimed, Unclaimed, Closed, Refused, Script, script_pass, script_size, present_of, IsPresentOf, next_step, doing, completing, after_mark, status_reply, irp_of, token_of, cancelled_life, file_of, Calls, has_no_claim, holds_none, refuses_pending, closes, reports_flag, reports_status, knows_no_irp, knows_no_file, claims_none, is_stale, Keeping, Keeps, IsOfRun}
+use Rattle.csq_replay.proofs.Imports.{by_test, by_value, slice_index_or, slice_set, get_or-set_same, get_or-set_other, length-set, FileId, IrpId, NtStatus, PENDING, Take, Out, Done, Made, IrpPlace, IsPlace, number, same_id, same_irp, same_pass, IrpLife, bit, armed, flagged, owes, holds, listed, dones, present, Size, IsRun, MachineState, Agrees, size_of, same_id-eq, same_id-ne, same_irp-refl, same_irp-eq, same_irp-ne, same_pass-refl, same_pass-eq, status_recorded, is_listed, Listing, with_closed, without_irp, Limits, with_file, after_event, has_entry, has_marked, has_unmarked, id_eq, is_listed-plain, listing-removed, listing-marked, ScriptCall, UnknownIrp, UnknownFile, NoClaim, NotHeld, StatusPending, Stale, Claimed, Unclaimed, Closed, Refused, Script, script_pass, script_size, present_of, IsPresentOf, next_step, doing, completing, after_mark, status_reply, irp_of, token_of, cancelled_life, file_of, Calls, has_no_claim, holds_none, refuses_pending, closes, reports_flag, reports_status, knows_no_irp, knows_no_file, claims_none, is_stale, Keeping, Keeps, IsOfRun}
 use Rattle.irp_core.specs.declared.step.Kind.TheVariants as step
 use Rattle.irp_core.specs.declared.standing.IrpPlace.TheVariants.{HeldBy}
 use Rattle.csq_replay.proofs.OneAnswer.{one_place}
@@ -158,11 +158,9 @@ module _ (l : Limits) (kept : Keeping) (s : Script) (k : Keeps l kept s) where
   pub mark_keeps : (i : IrpLife) → number i < (size_of kept.machine).irps → IsPresentOf s i → (v : ℕ) → v ≡ bit (armed s.run i) → (machine : MachineState)
       → Agrees machine (next_step (next_step s.run (step.Flag i)) (Take i)) → size_of machine ≡ size_of kept.machine
       → (t : Script) × Calls l s (Mark i) (mark_reply (not (v == 0))) t × Keeps l (record kept { machine = machine }) t
-  mark_keeps i known now v found machine a same = go (armed s.run i) refl
-    where
-      go : (b : Bool) → armed s.run i ≡ b → (t : Script) × Calls l s (Mark i) (mark_reply (not (v == 0))) t × Keeps l (record kept { machine = machine }) t
-      go true set = rw (found ∙ ap bit set) (claimed_keeps i known now set machine a same)
-      go false none = rw (found ∙ ap bit none) (unclaimed_keeps i known now none machine a same)
+  mark_keeps i known now v found machine a same = by_test (armed s.run i)
+      (λ set. rw (found ∙ ap bit set) (claimed_keeps i known now set machine a same))
+      (λ none. rw (found ∙ ap bit none) (unclaimed_keeps i known now none machine a same))
 
   -- after a mark with a claim, the pass owes the IRP
   pub claimed_owes : (i : IrpLife) (t : Script) → Calls l s (Mark i) Claimed t → (number i < l.irps) × (owes t.run script_pass (present_of t i.irp) ≡ true)
@@ -251,13 +249,11 @@ held_there (HeldBy q) = same_pass q script_pass
 held_there _ = false
 
 pub place_holds : (size : Size) (E : List Made) → IsRun size E → (i : IrpLife) (place : IrpPlace) → IsPlace E i place → held_there place ≡ holds E script_pass i
-place_holds size E r i place is = go (holds E script_pass i) refl
+place_holds size E r i place is = by_value (λ b. held_there place ≡ b) (holds E script_pass i)
+    (λ e. ap held_there (one_place size E r i place (HeldBy script_pass) is e) ∙ same_pass-refl script_pass)
+    (λ e. not_there place is (held_there place) refl e)
   where
     not_there : (p : IrpPlace) → IsPlace E i p → (b : Bool) → held_there p ≡ b → holds E script_pass i ≡ false → b ≡ false
     not_there (HeldBy q) at true e none = let same : q ≡ script_pass = same_pass-eq q script_pass e in let held : holds E script_pass i ≡ true = ap (λ p. holds E p i) (sym same) ∙ at in cc
     not_there (HeldBy q) at false e none = refl
     not_there x at b e none = sym e
-
-    go : (b : Bool) → holds E script_pass i ≡ b → held_there place ≡ b
-    go true e = ap held_there (one_place size E r i place (HeldBy script_pass) is e) ∙ same_pass-refl script_pass
-    go false e = not_there place is (held_there place) refl e

@@ -1,6 +1,6 @@
 -- What the calls answer that other calls are made of.
 use Rattle.std.proofs.Common.{◌≡◌, ◌≢◌, ℕ, ◌+◌, ◌<◌, Bool, true, false, cond, not, ◌&&◌, ◌||◌, List, [], ◌∷◌, map, length, Some, None, refl, ap, sym, ◌∙◌, subst, arith}
-use Rattle.csq_replay.proofs.Imports.{and_parts, not-true, not-false, or-false, and-false, or-true, length-map, FileId, IrpId, NtStatus, PENDING, CANCELLED, Disarm, Made, life_of, same_irp, IrpLife, armed, holds, Size, same_irp-refl, same_irp-eq, same_pass-refl, Peek, File, matches, is_listed, is_distinct, Listing, IsSound, filter-none, Queued, QueueState, Limits, present_in, first_unmarked, has_entry, without, after_event, plain, is_listed-plain, ArePresent, Next, Mark, Cancel, Close, Cleanup, Reply, Removed, NoIrp, Refused, Script, script_pass, present_of, completing, next_step, after_steps, removal_steps, Calls, Cleans, Does, removes_next, completes, holds_none, is_stale, knows_no_irp, knows_no_file, none_left, one_more, calls, Keeping, Keeps, AreMarked}
+use Rattle.csq_replay.proofs.Imports.{by_value, and_parts, not-true, not-false, or-false, and-false, or-true, length-map, FileId, IrpId, NtStatus, PENDING, CANCELLED, Disarm, Made, life_of, same_irp, IrpLife, armed, holds, Size, same_irp-refl, same_irp-eq, same_pass-refl, Peek, File, matches, is_listed, is_distinct, Listing, IsSound, filter-none, Queued, QueueState, Limits, present_in, first_unmarked, has_entry, without, after_event, plain, is_listed-plain, ArePresent, Next, Mark, Cancel, Close, Cleanup, Reply, Removed, NoIrp, Refused, Script, script_pass, present_of, completing, next_step, after_steps, removal_steps, Calls, Cleans, Does, removes_next, completes, holds_none, is_stale, knows_no_irp, knows_no_file, none_left, one_more, calls, Keeping, Keeps, AreMarked}
 use Rattle.csq_words.specs.declared.views.Event.TheVariants as event
 use Rattle.csq_replay.specs.declared.script.call.CallRefused.{CallRefused}
 use Rattle.csq_replay.proofs.Removing.{present, entry_now, listed_is, listed_known}
@@ -44,14 +44,11 @@ removal_holds k i (e ∷ es) E h f = go (removal_holds k i es) (matches k e.file
 -- the IRP of a match is listed
 pub first_listed : (k : Peek) (i : IrpLife) (es : List Queued) → first_unmarked k es ≡ Some i → has_entry es i ≡ true
 first_listed k i [] f = absurd cc
-first_listed k i (e ∷ es) f = go (not e.marked && matches k e.file) refl (first_listed k i es)
-  where
-    go : (b : Bool) → (not e.marked && matches k e.file) ≡ b → (first_unmarked k es ≡ Some i → has_entry es i ≡ true) → (same_irp e.irp i || has_entry es i) ≡ true
-    go true match rest =
-        let found : Some e.irp ≡ Some i = rw match at f in
-        let same : e.irp ≡ i = cc in
-        rw (same, same_irp-refl) refl
-    go false match rest = ap (λ b. same_irp e.irp i || b) (rest (rw match at f)) ∙ or-true (same_irp e.irp i)
+first_listed k i (e ∷ es) f = by_value (λ b. (first_unmarked k es ≡ Some i → has_entry es i ≡ true) → (same_irp e.irp i || has_entry es i) ≡ true) (not e.marked && matches k e.file)
+    (λ match rest. let found : Some e.irp ≡ Some i = rw match at f in
+    let same : e.irp ≡ i = cc in
+    rw (same, same_irp-refl) refl)
+    (λ match rest. ap (λ b. same_irp e.irp i || b) (rest (rw match at f)) ∙ or-true (same_irp e.irp i)) (first_listed k i es)
 
 -- one entry leaves
 pub length_without : (lives : IrpId → ℕ) (i : IrpLife) (es : List Queued) → ArePresent lives es → is_distinct (map plain es) ≡ true → has_entry es i ≡ true → length (without i es) + 1 ≡ length es

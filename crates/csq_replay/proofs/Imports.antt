@@ -32,6 +32,7 @@ pub use Rattle.csq_words.proofs.Lives.{AreBegun, ArePresent, HasSoundLives}
 pub use Rattle.csq_words.proofs.Named.{id_eq, irp_eq, same_irp-is, same_irp-not}
 pub use Rattle.csq_words.specs.Plays.{status_recorded}
 pub use Rattle.csq_words.specs.Queue.{Limits, QueueState, Queued, after_event, back_refusal, begin_next, present_in, first_unmarked, has_entry, has_irp, has_marked, has_unmarked, limits_of, marking, new_entry, plain, plain_listing, refusal, reply_to_insert, with_file, without}
+pub use Rattle.irp_core.proofs.ByTest.{by_test, by_value}
 pub use Rattle.irp_core.proofs.Lives.{life_next, life_same, listed_present, unborn_home, used_begun}
 pub use Rattle.irp_core.proofs.Names.{named, same_id-eq, same_id-ne, same_irp-eq, same_irp-ne, same_irp-refl, same_pass-eq, same_pass-refl}
 pub use Rattle.irp_core.proofs.Owning.{done_gone, stands}

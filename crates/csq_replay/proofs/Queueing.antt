@@ -1,6 +1,6 @@
 -- The queue of one thread says of each IRP what the run says, step by step.
 use Rattle.std.proofs.Common.{◌≡◌, ℕ, ◌+◌, ◌≤◌, Bool, true, false, cond, not, ◌&&◌, ◌||◌, List, [], ◌∷◌, refl, ap, sym, ◌∙◌, arith}
-use Rattle.csq_replay.proofs.Imports.{or-false, or-true, or_right, PassId, FileId, Kind, Arm, Test, Disarm, End, Flag, Take, Out, Done, Renew, Rearm, Made, Standing, IrpId, life_of, same_id, same_irp, IrpLife, present_life, IsPresent, life_same, life_next, listed_present, used_begun, ArePresent, AreBegun, HasSoundLives, armed, flagged, was_armed, owes, holds, has_gone, listed, Size, IsRun, same_irp-refl, same_irp-eq, Row, stands, Place, put_at, Queued, QueueState, present_in, begin_next, has_irp, has_entry, has_marked, has_unmarked, marking, without, after_event, new_entry, script_pass, next_step, AreMarked, IsOfRun}
+use Rattle.csq_replay.proofs.Imports.{by_value, or-false, or-true, or_right, PassId, FileId, Kind, Arm, Test, Disarm, End, Flag, Take, Out, Done, Renew, Rearm, Made, Standing, IrpId, life_of, same_id, same_irp, IrpLife, present_life, IsPresent, life_same, life_next, listed_present, used_begun, ArePresent, AreBegun, HasSoundLives, armed, flagged, was_armed, owes, holds, has_gone, listed, Size, IsRun, same_irp-refl, same_irp-eq, Row, stands, Place, put_at, Queued, QueueState, present_in, begin_next, has_irp, has_entry, has_marked, has_unmarked, marking, without, after_event, new_entry, script_pass, next_step, AreMarked, IsOfRun}
 use Rattle.irp_core.specs.declared.standing.Standing.TheVariants.{Home, Waiting, Owed, Held}
 use Rattle.irp_core.specs.declared.ids.Life.{Life}
 use Rattle.csq_list.specs.declared.entry.Place.TheVariants.{Back, Front}
@@ -57,11 +57,7 @@ marks_placed E Back e (x ∷ es) here h = (h.0, marks_placed E Back e es here h.
 
 -- another IRP than one that isn't listed
 pub other_entry : (es : List Queued) (i j : IrpLife) → has_entry es i ≡ false → has_entry es j ≡ true → same_irp i j ≡ false
-other_entry es i j absent there = go (same_irp i j) refl
-  where
-    go : (b : Bool) → same_irp i j ≡ b → b ≡ false
-    go false e = refl
-    go true e = let same : i ≡ j = same_irp-eq i j e in absurd (cc (absent, there, same))
+other_entry es i j absent there = by_value (λ b. b ≡ false) (same_irp i j) (λ e. let same : i ≡ j = same_irp-eq i j e in absurd (cc (absent, there, same))) (λ _. refl)
 
 -- the mark of a listed IRP
 pub marked_is : (E : List Made) (es : List Queued) → AreMarked E es → (i : IrpLife) → (has_unmarked es i ≡ (has_entry es i && armed E i)) × (has_marked es i ≡ (has_entry es i && not (armed E i)))
@@ -201,11 +197,9 @@ same_irp-sym i j = go (same_irp i j) (same_irp j i) refl refl
 -- the entries that stay are marked as before
 pub marks_without : (E : List Made) (i : IrpLife) (es : List Queued) → AreMarked E es → AreMarked E (without i es)
 marks_without E i [] h = tt
-marks_without E i (e ∷ es) h = go (same_irp e.irp i) (marks_without E i es h.1)
-  where
-    go : (b : Bool) → AreMarked E (without i es) → AreMarked E (cond (not b) (e ∷ without i es) (without i es))
-    go true rest = rest
-    go false rest = (h.0, rest)
+marks_without E i (e ∷ es) h = by_value (λ b. AreMarked E (cond (not b) (e ∷ without i es) (without i es))) (same_irp e.irp i)
+    (λ _. marks_without E i es h.1)
+    (λ _. (h.0, marks_without E i es h.1))
 
 pub marks_marking : (E F : List Made) (i : IrpLife) (es : List Queued) → ((j : IrpLife) → armed F j ≡ (not (same_irp i j) && armed E j)) → AreMarked E es → AreMarked F (marking i es)
 marks_marking E F i [] after h = tt

@@ -1,6 +1,6 @@
 -- Between two calls the pass holds only what it got by removals.
 use Rattle.std.proofs.Common.{◌≡◌, ℕ, Bool, true, false, cond, not, ◌&&◌, ◌||◌, ◌==◌, List, [], ◌∷◌, refl}
-use Rattle.csq_replay.proofs.Imports.{FileId, IrpId, NtStatus, CANCELLED, Kind, Arm, Test, Disarm, End, Flag, Take, Out, Done, Renew, Rearm, Made, Inside, Nothing, Removing, Cancelling, same_irp, same_pass, IrpLife, bit, armed, inside, inside_after, in_insert, holds, removed, same_pass-refl, Peek, File, matches, Queued, Limits, has_unmarked, has_marked, ScriptCall, Next, Mark, Routine, Complete, Close, Reply, Removed, NoIrp, Claimed, Unclaimed, Completed, Closed, Script, script_pass, present_of, next_step, after_steps, removal_steps, named_removal_steps, Calls, Cleans, Does, refuses_insert, lists, cancels_insert, removes_next, removes, removes_none, claims, claims_none, runs_routine, has_no_claim, completes, holds_none, refuses_pending, refuses_put_back, puts_back, cancels_put_back, closes, is_stale, reuses, not_completed, lives_spent, reports_flag, reports_status, knows_no_irp, knows_no_file, none_left, one_more, calls, cancel_claimed, cancel_unclaimed, cleaned, HoldsRemoved}
+use Rattle.csq_replay.proofs.Imports.{by_value, FileId, IrpId, NtStatus, CANCELLED, Kind, Arm, Test, Disarm, End, Flag, Take, Out, Done, Renew, Rearm, Made, Inside, Nothing, Removing, Cancelling, same_irp, same_pass, IrpLife, bit, armed, inside, inside_after, in_insert, holds, removed, same_pass-refl, Peek, File, matches, Queued, Limits, has_unmarked, has_marked, ScriptCall, Next, Mark, Routine, Complete, Close, Reply, Removed, NoIrp, Claimed, Unclaimed, Completed, Closed, Script, script_pass, present_of, next_step, after_steps, removal_steps, named_removal_steps, Calls, Cleans, Does, refuses_insert, lists, cancels_insert, removes_next, removes, removes_none, claims, claims_none, runs_routine, has_no_claim, completes, holds_none, refuses_pending, refuses_put_back, puts_back, cancels_put_back, closes, is_stale, reuses, not_completed, lives_spent, reports_flag, reports_status, knows_no_irp, knows_no_file, none_left, one_more, calls, cancel_claimed, cancel_unclaimed, cleaned, HoldsRemoved}
 
 -- the pass isn't inside of an insert or a put-back
 abbrev IsNoInsert : List Made → Type 0
@@ -16,33 +16,25 @@ module _ (E : List Made) (h : HoldsRemoved E) where
   one_step : (k : Kind) → gives_none k ≡ true → HoldsRemoved (next_step E k)
   one_step (Disarm i) n j held = absurd cc
   one_step (Out i) n j held = absurd cc
-  one_step (Done i) n j held = go (same_irp i j) held
-    where
-      go : (b : Bool) → (not ((b || false) && same_pass script_pass script_pass) && holds E script_pass j) ≡ true → removed E j ≡ true
-      go true held = absurd (cc (rw same_pass-refl at held))
-      go false held = h j held
-  one_step (Rearm i) n j held = go (same_irp i j) held
-    where
-      go : (b : Bool) → (not (b && same_pass script_pass script_pass) && holds E script_pass j) ≡ true → (not b && removed E j) ≡ true
-      go true held = absurd (cc (rw same_pass-refl at held))
-      go false held = h j held
+  one_step (Done i) n j held = by_value (λ b. (not ((b || false) && same_pass script_pass script_pass) && holds E script_pass j) ≡ true → removed E j ≡ true) (same_irp i j)
+      (λ _ held. absurd (cc (rw same_pass-refl at held)))
+      (λ _ held. h j held) held
+  one_step (Rearm i) n j held = by_value (λ b. (not (b && same_pass script_pass script_pass) && holds E script_pass j) ≡ true → (not b && removed E j) ≡ true) (same_irp i j)
+      (λ _ held. absurd (cc (rw same_pass-refl at held)))
+      (λ _ held. h j held) held
   one_step k n j held = h j held
 
   -- a removal's Disarm
   disarm_step : (i : IrpLife) → IsNoInsert E → HoldsRemoved (next_step E (Disarm i))
-  disarm_step i outside j held = go (same_irp i j && (bit (armed E i) == 1)) held
-    where
-      go : (b : Bool) → (((b || false) && same_pass script_pass script_pass) || holds E script_pass j) ≡ true → ((b && not (in_insert (inside E script_pass))) || removed E j) ≡ true
-      go true held = rw outside refl
-      go false held = h j held
+  disarm_step i outside j held = by_value (λ b. (((b || false) && same_pass script_pass script_pass) || holds E script_pass j) ≡ true → ((b && not (in_insert (inside E script_pass))) || removed E j) ≡ true) (same_irp i j && (bit (armed E i) == 1))
+      (λ _ held. rw outside refl)
+      (λ _ held. h j held) held
 
 -- what is got otherwise is completed at once
 completed_step : (F : List Made) (i : IrpLife) → ((j : IrpLife) → same_irp i j ≡ false → holds F script_pass j ≡ true → removed F j ≡ true) → HoldsRemoved (next_step F (Done i))
-completed_step F i others j held = go (same_irp i j) refl held
-  where
-    go : (b : Bool) → same_irp i j ≡ b → (not ((b || false) && same_pass script_pass script_pass) && holds F script_pass j) ≡ true → removed F j ≡ true
-    go true e held = absurd (cc (rw same_pass-refl at held))
-    go false e held = others j e held
+completed_step F i others j held = by_value (λ b. (not ((b || false) && same_pass script_pass script_pass) && holds F script_pass j) ≡ true → removed F j ≡ true) (same_irp i j)
+    (λ _ held. absurd (cc (rw same_pass-refl at held)))
+    (λ e held. others j e held) held
 
 -- what a removal goes on from is no insert
 after_disarm_outside : (x : Inside) (i : IrpLife) (v : ℕ) → in_insert x ≡ false → in_insert (inside_after x (Disarm i) v) ≡ false

@@ -1,6 +1,6 @@
 -- Removals: the matches that are looked at, and what the driver keeps in the end.
 use Rattle.std.proofs.Common.{◌≡◌, ℕ, ◌<◌, Bool, true, false, cond, not, ◌&&◌, List, [], ◌∷◌, ◌++◌, map, Option, Some, None, refl, ap, sym, ◌∙◌, subst, arith, append_assoc}
-use Rattle.csq_replay.proofs.Imports.{map-append, and-false, IrpId, Disarm, End, Made, Inside, Nothing, Removing, number, life_of, same_irp, IrpLife, bit, armed, found_by, inside, inside_after, follows, listed, dones, Size, MachineState, Agrees, size_of, same_pass-refl, listed_present, status_recorded, Entry, Peek, matches, is_listed, is_distinct, rest_after, Listing, IsSound, without_irp, Queued, QueueState, Limits, present_in, plain_listing, first_unmarked, has_entry, has_marked, has_unmarked, after_event, plain, ArePresent, irp_eq, same_irp-is, is_listed-plain, listing-removed, Next, Remove, Removed, NoIrp, Script, script_pass, script_size, present_of, IsPresentOf, next_step, after_steps, doing, removal_steps, named_removal_steps, Calls, removes_next, removes, removes_none, Keeping, Keeps, IsOfRun, AreMarked}
+use Rattle.csq_replay.proofs.Imports.{by_test, by_value, map-append, and-false, IrpId, Disarm, End, Made, Inside, Nothing, Removing, number, life_of, same_irp, IrpLife, bit, armed, found_by, inside, inside_after, follows, listed, dones, Size, MachineState, Agrees, size_of, same_pass-refl, listed_present, status_recorded, Entry, Peek, matches, is_listed, is_distinct, rest_after, Listing, IsSound, without_irp, Queued, QueueState, Limits, present_in, plain_listing, first_unmarked, has_entry, has_marked, has_unmarked, after_event, plain, ArePresent, irp_eq, same_irp-is, is_listed-plain, listing-removed, Next, Remove, Removed, NoIrp, Script, script_pass, script_size, present_of, IsPresentOf, next_step, after_steps, doing, removal_steps, named_removal_steps, Calls, removes_next, removes, removes_none, Keeping, Keeps, IsOfRun, AreMarked}
 use Rattle.irp_core.specs.Lives as life
 use Rattle.csq_list.specs.Searches as plainly
 use Rattle.csq_list.proofs.Finding.{rest_after-ends, rest_after-among}
@@ -24,19 +24,11 @@ past k e es m = rw m (rw (and-false (not e.marked)) refl)
 
 pub sought : (k : Peek) (i : IrpId) (es : List Queued) → plainly.first_match k (map plain es) ≡ Some i → Sought k i es
 sought k i [] h = absurd cc
-sought k i (e ∷ es) h = go (matches k e.file) refl (sought k i es)
-  where
-    here : matches k e.file ≡ true → (b : Bool) → e.marked ≡ b → first_unmarked k (e ∷ es) ≡ cond e.marked (first_unmarked k es) (Some e.irp)
-    here m true is = rw (m, is) refl
-    here m false is = rw (m, is) refl
-
-    go : (b : Bool) → matches k e.file ≡ b → (plainly.first_match k (map plain es) ≡ Some i → Sought k i es) → Sought k i (e ∷ es)
-    go true m rest =
-        let found : Some e.irp.irp ≡ Some i = rw m at h in
-        record { before = []; entry = e; later = es; parts = refl; is = cc; steps = rw m refl; first = here m e.marked refl }
-    go false m rest =
-        let f : Sought k i es = rest (rw m at h) in
-        record { before = e ∷ f.before; entry = f.entry; later = f.later; parts = ap (λ l. e ∷ l) f.parts; is = f.is; steps = rw m f.steps; first = past k e es m ∙ f.first }
+sought k i (e ∷ es) h = by_value (λ b. (plainly.first_match k (map plain es) ≡ Some i → Sought k i es) → Sought k i (e ∷ es)) (matches k e.file)
+    (λ m rest. let found : Some e.irp.irp ≡ Some i = rw m at h in
+    record { before = []; entry = e; later = es; parts = refl; is = cc; steps = rw m refl; first = by_test e.marked (λ is. rw (m, is) refl) (λ is. rw (m, is) refl) })
+    (λ m rest. let f : Sought k i es = rest (rw m at h) in
+    record { before = e ∷ f.before; entry = f.entry; later = f.later; parts = ap (λ l. e ∷ l) f.parts; is = f.is; steps = rw m f.steps; first = past k e es m ∙ f.first }) (sought k i es)
 
 -- where no entry matches, a removal ends
 pub none_sought : (k : Peek) (es : List Queued) → plainly.first_match k (map plain es) ≡ None → (removal_steps k es ≡ End ∷ []) × (first_unmarked k es ≡ None)
@@ -315,19 +307,16 @@ module _ (l : Limits) (kept : Keeping) (s : Script) (k : Keeps l kept s) where
       → Agrees new (next_step s.run End) → size_of new ≡ size_of kept.machine
       → (t : Script) × Calls l s (Remove i) NoIrp t × Keeps l (record kept { machine = new }) t
   unlisted_keeps i known absent new a same =
-      let nowhere : has_entry s.queue.entries i ≡ false = no_entry (has_entry s.queue.entries i) refl in
+      let nowhere : has_entry s.queue.entries i ≡ false = by_value (λ b. b ≡ false) (has_entry s.queue.entries i)
+      (λ e. let now = entry_now i e in
+      let here : is_listed kept.listing.entries i.irp ≡ true = listed_is i (sym (ap life_of now)) ∙ e in
+      let both : (same_irp (present_of s i.irp) i && is_listed kept.listing.entries i.irp) ≡ true = rw (same_irp-is (present_of s i.irp) i now, here) refl in
+      absurd (cc (absent, both)))
+      (λ _. refl) in
       let marks = marked_is s.run s.queue.entries k.queue.marks i in
       let unmarked : has_unmarked s.queue.entries i ≡ false = marks.0 ∙ rw nowhere refl in
       let marked : has_marked s.queue.entries i ≡ false = marks.1 ∙ rw nowhere refl in
       none_removed i known unmarked (next_step s.run End) (rw (unmarked, marked) refl) new a same (queue_end s.run s.queue k.queue) (rw same_pass-refl refl) (λ j. refl)
-    where
-      no_entry : (b : Bool) → has_entry s.queue.entries i ≡ b → b ≡ false
-      no_entry false e = refl
-      no_entry true e =
-          let now = entry_now i e in
-          let here : is_listed kept.listing.entries i.irp ≡ true = listed_is i (sym (ap life_of now)) ∙ e in
-          let both : (same_irp (present_of s i.irp) i && is_listed kept.listing.entries i.irp) ≡ true = rw (same_irp-is (present_of s i.irp) i now, here) refl in
-          absurd (cc (absent, both))
 
   pub marked_may_end : (i : IrpLife) (new : MachineState) (v : ℕ) → Agrees new (next_step s.run (Disarm i)) → size_of new ≡ size_of kept.machine → v ≡ found_by s.run (Disarm i) → (v ≡ 1 → ⊥) → May new End
   marked_may_end i new v a same value miss =

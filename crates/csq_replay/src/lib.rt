@@ -13,7 +13,7 @@ pub use laws::{
 pub use lines::answer::{Ended, MAX_INPUT, SimFault, exit_status, read_input, write_answer};
 pub use lines::names::parse_name;
 pub use lines::pieces::{parse_number, parse_status, split_piece};
-pub use lines::{Answerer, Ending, Line, MAX_LINE, answer_input, is_skipped, reply};
+pub use lines::{Answerer, Ending, Line, MAX_LINE, answer_input, is_skipped};
 pub use schedule::closing::{IrpLine, irp_line};
 pub use schedule::outcome::{Outcome, Stop, handle_line};
 pub use schedule::step_line::parse_pass;

@@ -1,17 +1,15 @@
 //! Lines, answered one after the other.
-ghost use Rattle.std.specs.Prelude.{◌≡◌, ◌≢◌, ◌↔◌, ℕ, List, Option, string_bytes, IfOk, IfErr, OnOk, IsTrue};
-ghost use Rattle.std.specs.Io.KnownBytes.{Keeps};
+ghost use Rattle.std.specs.Prelude.{◌≡◌, ◌↔◌, ℕ, List, Option, string_bytes, IfOk, OnOk, IsTrue};
 ghost use Rattle.csq_replay.specs.Pieces.{lines_of};
-ghost use Rattle.csq_replay.specs.Lines.{IsSkipped, GrewBy, Leaves, AnswersAll, AnswersUntil, IsAnswer, IsAnswerUntil, RepliesTo, ended_of};
+ghost use Rattle.csq_replay.specs.Lines.{IsSkipped, GrewBy, Leaves, AnswersAll, AnswersUntil, IsAnswerUntil, ended_of};
 
 pub(crate) mod answer;
 pub(crate) mod names;
 pub(crate) mod pieces;
 
-use crate::lines::answer::{Ended, MAX_INPUT, SimFault, read_input, write_answer};
+use crate::lines::answer::{Ended, MAX_INPUT};
 use crate::lines::pieces::split_line;
 use std::alloc::{AllocError, Allocator};
-use std::io::{Read, Write};
 
 /// The most bytes of a line, without its line feed. Own rule.
 pub const MAX_LINE: usize = 64;
@@ -138,26 +136,4 @@ pub fn answer_input<'a, X: Answerer<A, W>, A: Allocator, W: Copy>(
         return Ok(Ending::TooLong);
     }
     answer_lines(answerer, input, text)
-}
-
-/// Reads an input whole, up to 1,048,577 bytes, and writes what it is answered: line after line, and then
-/// the closing lines. Faults: 1 Memory and 2 Read, after which nothing was written; 3 Write. Own rule.
-pub fn reply<X: Answerer<A, W>, A: Allocator + Copy, W: Copy, R: Read, Out: Write>(
-    alloc: A,
-    answerer: &mut X,
-    reader: &mut R,
-    writer: &mut Out,
-) -> Result<Ended, SimFault>
-    requires { (c : X.Kind) × (s : X.State) × X.stands answerer.old c s }
-    ensures answered { (c : X.Kind) (s : X.State) → X.stands answerer.old c s
-        → IfOk result (RepliesTo (IsAnswer (X.answers c) (X.closes c) s)
-        (R.remaining reader.old) (R.remaining reader.new) (Out.contents writer.old) (Out.contents writer.new)) }
-    ensures unwritten { IfErr result (λ fault. fault ≢ SimFault.Write
-        → Keeps (Out.contents writer.old) (Out.contents writer.new)) }
-{
-    let input = read_input(alloc, reader)?;
-    let mut text = String::new(alloc);
-    let ending = answer_input(answerer, &input, &mut text)?;
-    write_answer(writer, text.as_bytes())?;
-    Ok(ending.ended())
 }

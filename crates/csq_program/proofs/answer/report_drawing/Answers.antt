@@ -3,7 +3,7 @@ use Rattle.std.specs.Prelude.{IfOk}
 use Rattle.irp_core.specs.Runs.{Size}
 use Rattle.csq_draw.specs.Drawings.{new_drawn}
 use Rattle.csq_diagnose.proofs.Reporting.{if_ok}
-use Rattle.csq_program.specs.Replays.{IsDrawnReport}
+use Rattle.csq_program.specs.Replays.{ReportsDrawingEnd}
 use Rattle.csq_program.proofs.Drawings.{drawing_reported}
 use Rattle.csq_program.proofs.answer.report_drawing.Goals as goal
 
@@ -16,5 +16,5 @@ pub returns : goal.returns
 returns g c =
     let size : Size = record { irps = c.args.irps; passes = c.args.passes; first = 0 } in
     let input = c.cut_input.result.now in
-    let drawn = if_ok c.report_input.result (λ report is. record { drawn = is; kept = λ ends. drawing_reported size c.args.view input report ends is }) (c.report_input.ensures (size, c.args.view) new_drawn c.in_ok-drawing.ensures) in
-    subst (λ (bytes : List ℕ). IfOk c.report_input.result (IsDrawnReport size c.args.view bytes)) c.cut_input.ensures.cut drawn
+    let drawn = if_ok c.report_input.result (λ report is. record { ends = is; kept = λ stays. drawing_reported size c.args.view.wrong input report stays is }) (c.report_input.ensures (size, c.args.view) new_drawn c.in_ok-drawing.ensures) in
+    subst (λ (bytes : List ℕ). IfOk c.report_input.result (ReportsDrawingEnd size c.args.view.wrong bytes)) c.cut_input.ensures.cut drawn
