@@ -1,6 +1,0 @@
-use Rattle.std.proofs.Common.{None, refl}
-use Rattle.csq_audit.proofs.Auditing.{gives}
-use Rattle.csq_audit.proofs.laws.agreeing_peeks_give_the_list.Goals as goal
-
-pub returns : goal.returns
-returns c = λ es distinct is. gives es distinct es None refl is
