@@ -111,6 +111,7 @@ step_recorded first trace (noting call n p {trace = t} in' outside rest) m newer
 
 pub in_order : EventsStandInOrder
 in_order first trace is = record {
+  is_trace = is;
   each_event = λ e newer older at. stands_at first (Says e) newer older (subst (EachStands first) at (each_stands first trace is));
   each_step = λ m newer older at locked. step_recorded first trace is m newer older at locked;
 }

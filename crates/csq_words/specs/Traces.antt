@@ -149,8 +149,9 @@ pub record IsRecorded (first : ℕ) (m : Made) (newer before : List Tick) : Type
   pub later : List Tick
   pub newer_is : newer ≡ later ++ says (recorded_after first before call m)
 
--- each event stands at a step of its own pass, or is of a call that makes no step; and each step under the lock has its events there
+-- the ticks stand in the order of one execution: each event at a step of its own pass, or it is of a call that makes no step; and each step under the lock has its events there
 pub record StandInOrder (first : ℕ) (trace : List Tick) : Type 0 where
+  pub is_trace : IsTrace first trace
   pub each_event : (e : HistoryEntry) (newer older : List Tick) → trace ≡ newer ++ (Says e ∷ older) → (is_noted e.event ≡ true) ⊎ ((m : Made) × HasRecorded first m e older)
   pub each_step : (m : Made) (newer older : List Tick) → trace ≡ newer ++ (Makes m ∷ older) → needs_lock m.kind ≡ true → IsRecorded first m newer older
 
