@@ -18,7 +18,7 @@ use Rattle.csq_queue.specs.Steps.{passed_over}
 abbrev pub MakesAtMost : ℕ → PassRecord → PassRecord → Type 0
 MakesAtMost n old new = (newer : List Made) × (new.steps ≡ newer ++ old.steps) × (length newer ≤ n)
 
--- the matches that a removal passes over, each of which a canceller had claimed
+-- how many matches a removal passes over: those that stand before the one that it takes, or all if it takes none
 abbrev pub passed : Peek → Option IrpLife → Limits → List HistoryEntry → ℕ
 passed peek taken limits history = length (passed_over peek taken (end_of limits.first history).entries)
 
