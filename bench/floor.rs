@@ -73,7 +73,6 @@ impl Floor {
         self.locked(|| {
             let next = (irp.status.load(SeqCst) >> 33) + 1;
             irp.status.swap(next << 33, SeqCst);
-            irp.routine.swap(2 * next, SeqCst);
             irp.cancel.swap(2 * next, SeqCst);
         });
     }

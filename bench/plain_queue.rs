@@ -213,7 +213,6 @@ impl<const COUNTS: bool, const BACKOFF: bool> Queue<COUNTS, BACKOFF> {
         }
         let next = life + 1;
         self.word(irp, Status).swap(next << 33, SeqCst);
-        self.word(irp, Routine).swap(2 * next, SeqCst);
         self.word(irp, Cancel).swap(2 * next, SeqCst);
         list.used[irp] = false;
         list.lives[irp] = next;

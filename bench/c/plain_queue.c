@@ -512,7 +512,6 @@ uint32_t csq_close_file(struct csq_queue *queue, struct csq_pass *pass, uint32_t
  * begins. */
 static void renew(struct queue *at, uint32_t irp, uint32_t next) {
     atomic_exchange(word_of(at->words, irp, STATUS), unset(next));
-    atomic_exchange(word_of(at->words, irp, ROUTINE), clear(next));
     atomic_exchange(word_of(at->words, irp, FLAG), clear(next));
     at->list.used[irp] = false;
     at->lives[irp] = next;

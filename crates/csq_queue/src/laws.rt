@@ -114,7 +114,7 @@ pub fn events_of_an_open_queue_stand_in_order()
 
 /// Each call makes a bounded number of atomic steps. Without the lock: a cancel two (its flag and its take), a completion
 /// one. Under the lock: an insert and a put-back three, a removal of one IRP two, a cancel routine and a reuse one (its
-/// renewal is one step, of three exchanges), and a removal of the next match one more than the matches that it passes
+/// renewal is one step, of two exchanges), and a removal of the next match one more than the matches that it passes
 /// over, which are at most as many as the list may hold.
 pub fn calls_are_short()
     ensures { CallsAreShort }

@@ -305,9 +305,9 @@ pub(crate) fn renew_irp<L: PendingList, A: Allocator>(
     }
     let present = IrpLife { irp, life };
     // The flag comes last, and is the linearization point. Until then a late cancel flags the life that
-    // ends, if no routine is left to take; from then on it finds another life.
+    // ends, if no routine is left to take; from then on it finds another life. The routine's word stays
+    // as it is: none is set there, and whoever looks for one looks for that of a life.
     seat.renew_status(words, call, present);
-    seat.renew_routine(words, call, present);
     seat.renew_cancel(words, call, present);
     // Still under the lock, so no call that takes it sees list, lives and words apart.
     list.renew(irp);

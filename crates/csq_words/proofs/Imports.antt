@@ -9,11 +9,11 @@ pub use Rattle.csq_list.specs.declared.entry.Place.TheVariants.{Back, Front}
 pub use Rattle.csq_words.specs.Calls.{IsNextMatch, MayComeBack, MayMake, MayNote, MayRemove, after_look, after_note, after_renewal, after_step, due_mark, recorded}
 pub use Rattle.csq_words.specs.Finals.{AllBack, AreOf, FinalWords, HasLives, InLife, IsCompletedAt, IsFinal, IsHomeAt, IsLeft, IsListedAt, IsRecordedBack, KeepsRecords, final_life, final_status, says_cancelled, shows_cancelled}
 pub use Rattle.csq_words.specs.History.{IsExtendedBy, IsGone, IsLegal, IsOrderly, MayCome, MayStand, OwnersPutBack, calls_of, end_of, given_to, gives, is_call, puts_back}
-pub use Rattle.csq_words.specs.Plays.{Completes, FindsUnmarked, Flags, IsBeingReused, IsFound, Looks, MakesStep, Notes, Observes, ObservesNote, ReadsCancel, ReadsStatusWord, RenewsCancel, RenewsRoutine, RenewsStatus, SaysFlagged, SaysStatusOf, SeatView, SeesAll, SeesFlag, Takes, FindsAgreement, ObservesBoth, ObservesQueue, after_flag, any_step, life_found, says_flagged, shows_flagged, status_recorded, taken_by}
+pub use Rattle.csq_words.specs.Plays.{Completes, FindsUnmarked, Flags, IsBeingReused, IsFound, Looks, MakesStep, Notes, Observes, ObservesNote, ReadsCancel, ReadsStatusWord, RenewsCancel, RenewsStatus, SaysFlagged, SaysStatusOf, SeatView, SeesAll, SeesFlag, Takes, FindsAgreement, ObservesBoth, ObservesQueue, after_flag, any_step, life_found, says_flagged, shows_flagged, status_recorded, taken_by}
 pub use Rattle.csq_words.specs.Queue.{Limits, QueueState, Queued, after_event, begin_next, present_in, first_unmarked, has_entry, has_file, has_irp, has_marked, has_unmarked, marking, new_entry, plain, plain_listing, without}
 pub use Rattle.csq_words.specs.Recorded.{IsOfCall}
 pub use Rattle.csq_words.specs.Records.{after_cut, caught_up, cut_off, entries_of, going_back, joined_by, leaving, new_pass, new_queue, newest, next_pass, one_more, only_calls, pass_in, pass_prefix_view, pass_view, prefix_of, prefix_view, prefix_view_of, queue_in, queue_of, receipt_of, receipt_view, same_view, saw, saw_prefix, shown_by, shown_receipt, spent_view, view_of, with_back, with_calls, with_completion, with_events, with_life, with_prefix_of, with_reusing, with_trace, with_shown, with_step, without_pass}
-pub use Rattle.csq_words.specs.Rule.{AreBack, AreDue, AreStored, AreTrueOf, BackOnce, Fits, HasBack, HasObserved, HasSeen, HaveSeen, HasWords, HaveBegun, IsBack, IsBitWord, IsHistoryOf, IsNobody, IsOut, IsPassOf, IsRecord, IsResting, IsReuse, IsStatusWord, IsStored, IsTrueOf, MayRenew, QueueHasRun, RecordsAgree, RuleHolds, RuleHoldsBy, RuleHoldsWith, SaysStatus, SeatHasRecord, SomeRunAgrees, WasCancelled, WordsAgree, again, completed_in, in_flight, inserts, is_done, lists, next_life, passes_given, renewed_routine, renewed_status, stands_for, table_size, was_put_back, was_set, with_done}
+pub use Rattle.csq_words.specs.Rule.{AreBack, AreDue, AreStored, AreTrueOf, BackOnce, Fits, HasBack, HasObserved, HasSeen, HaveSeen, HasWords, HaveBegun, IsBack, IsBitWord, IsRoutineWord, SaysRoutine, IsHistoryOf, IsNobody, IsOut, IsPassOf, IsRecord, IsResting, IsReuse, IsStatusWord, IsStored, IsTrueOf, MayRenew, QueueHasRun, RecordsAgree, RuleHolds, RuleHoldsBy, RuleHoldsWith, SaysStatus, SeatHasRecord, SomeRunAgrees, WasCancelled, WordsAgree, again, completed_in, in_flight, inserts, is_done, lists, next_life, passes_given, renewed_status, stands_for, table_size, was_put_back, was_set, with_done}
 pub use Rattle.csq_words.specs.Seats.{HasQueue, IsHere, IsJoined, IsPassSeat, IsQueueSeat, IsReceipt, IsSeenSeat, PassSeatState, QueueSeatState, SeenState, WordSeat, joined_record, new_seats, pass_at, pass_record, pass_seat_of, queue_seat_of, receipt_seat_of, seen_seat_of, with_view}
 pub use Rattle.csq_words.specs.Traces.{IsTraceOf, steps_in}
 pub use Rattle.csq_words.specs.Words.{bit_in, bit_word, cancel_at, life_in, new_words, routine_at, status_at, status_in, status_life_in, status_word, unset_word}
@@ -26,7 +26,7 @@ pub use Rattle.csq_words.specs.declared.views.InsertReply.TheVariants.{Cancelled
 pub use Rattle.csq_words.specs.declared.views.PassRecord.{PassRecord}
 pub use Rattle.csq_words.specs.declared.views.QueueRecord.{QueueRecord}
 pub use Rattle.csq_words.specs.declared.views.Reusing.{Reusing}
-pub use Rattle.csq_words.specs.declared.views.Reusing.TheVariants.{Looked, Nothing, RoutineRenewed, StatusRenewed}
+pub use Rattle.csq_words.specs.declared.views.Reusing.TheVariants.{Looked, Nothing, StatusRenewed}
 pub use Rattle.csq_words.specs.declared.views.Tick.{Tick}
 pub use Rattle.csq_words.specs.declared.views.Tick.TheVariants.{Makes}
 pub use Rattle.csq_words.specs.declared.views.View.{View}

@@ -1,16 +1,15 @@
 -- The steps of an insert: arm, test, and its own disarm.
 use Rattle.std.proofs.Common.{◌≡◌, ℕ, zero, suc, ◌<◌, Bool, true, false, cond, not, ◌&&◌, ◌||◌, List, ◌∷◌, set, refl, sym, ap, ◌∙◌, subst, arith, length-set}
-use Rattle.csq_words.proofs.Imports.{by_value, and-false, and_parts, false_from_ne_true, inside_of, FileId, PassId, Arm, Test, Disarm, Made, life_of, same_irp, is, found_one, own, IrpLife, IsPresent, IrpId, armed, flagged, found_by, was_armed, inside, listed, removed, Size, IsRun, same_irp-refl, inserted_listed, grows_by_arm, grows_by_test, grows_by_insert_disarm, Place, PassRecord, QueueRecord, present_in, has_entry, has_irp, new_entry, put_at, queue_of, routine_at, bit_word, WasCancelled, is_done, inserts, lists, again, recorded, Pending, own_made, own_stays}
+use Rattle.csq_words.proofs.Imports.{by_value, and-false, and_parts, false_from_ne_true, inside_of, FileId, PassId, Arm, Test, Disarm, Made, life_of, same_irp, is, found_one, own, IrpLife, IsPresent, IrpId, armed, flagged, found_by, was_armed, inside, listed, removed, Size, IsRun, same_irp-refl, inserted_listed, grows_by_arm, grows_by_test, grows_by_insert_disarm, Place, PassRecord, QueueRecord, present_in, has_entry, has_irp, new_entry, put_at, queue_of, routine_at, bit_word, WasCancelled, is_done, inserts, lists, again, recorded, Pending, own_made, own_stays, present}
 use Rattle.irp_core.specs.declared.inside.Inside.TheVariants.{Nothing, Armed, FlagSeen}
 use Rattle.csq_words.specs.declared.calls.Call.TheVariants.{Insert}
 use Rattle.csq_words.specs.declared.views.Event.TheVariants as event
-use Rattle.csq_words.proofs.Facts.{off, due_more, given_miss, given_hit, fresh, set_listed, listed_undone, done_over, listed_taken, flag_seen, armed_own, seen_own, bit_true, bit_bound, again_disarm}
+use Rattle.csq_words.proofs.Facts.{off, due_more, given_miss, given_hit, fresh, set_listed, done_over, listed_taken, flag_seen, armed_own, seen_own, bit_true, bit_bound, again_disarm}
 use Rattle.csq_words.proofs.Named.{by_irp, same_irp-is}
 use Rattle.csq_words.proofs.Truths.{true_stays, truths_stay}
-use Rattle.csq_words.proofs.Changes.{routine_of, arm_words, disarm_words, test_words, stored_else, status_routine}
+use Rattle.csq_words.proofs.Changes.{present_is, arm_words, disarm_words, test_words, stored_else, status_routine}
 use Rattle.csq_words.proofs.Entries.{has_entry-placed, has_entry-marking}
 use Rattle.csq_words.proofs.Marking.{placed_unmarked}
-use Rattle.csq_words.proofs.PassSteps.{routine_here}
 use Rattle.csq_words.proofs.SeatSteps.{reuse_more}
 use Rattle.csq_words.proofs.CallSteps.{Sees, IsMade}
 
@@ -36,7 +35,7 @@ module _ (size : Size) (words : List ℕ) (run : List Made) (q : QueueRecord) (r
   now = x.history_is.lives_are n
 
   module _ (outside : inside_of r.steps ≡ Nothing) (unused : has_irp (queue_of q).used i ≡ false) where
-    never_armed : was_armed run i ≡ false
+    pub never_armed : was_armed run i ≡ false
     never_armed = sym (x.history_is.used_is i ∙ ap (λ s. not (inserts s i) && was_armed run i) outside) ∙ unused
 
     pub undone : is_done run i ≡ false
@@ -50,7 +49,7 @@ module _ (size : Size) (words : List ℕ) (run : List Made) (q : QueueRecord) (r
         let wide = x.wide in record {
           wide = length-set words (routine_at i.irp) (bit_word (life_of i) 1);
           is_run = is_run;
-          words_are = λ j l. arm_words size.first words run q.reusing r.pass i v j (x.words_are j l) 1 (omega arith) (routine_here size run i now undone q.reusing x.reuse_is) refl;
+          words_are = λ j l. arm_words size.first words run q.reusing r.pass i v j (x.words_are j l) 1 (omega arith) (present_is size.first run i now) refl;
           reuse_is = reuse_more size m run (λ l. refl) q.reusing x.reuse_is;
           inert = λ is. refl;
           stored = λ cs h. stored_else words (routine_at i.irp) (bit_word (life_of i) 1) cs (λ j. status_routine j i.irp) h;
@@ -154,8 +153,8 @@ module _ (size : Size) (words : List ℕ) (run : List Made) (q : QueueRecord) (r
     armed_stays : (m : Made) → m.pass ≡ r.pass → was_armed (own r.pass (m ∷ run)) i ≡ true
     armed_stays m mine = own_stays r.pass m run mine (is (Arm i)) (seen_own size run x.history_is.is_run r.pass i run_seen)
 
-    here : routine_of size.first run q.reusing i.irp ≡ i
-    here = routine_here size run i now (listed_undone size run x.history_is.is_run i listed_of_seen) q.reusing x.reuse_is
+    here : present size.first run i.irp ≡ i
+    here = present_is size.first run i now
 
     disarm_run : (v : ℕ) → v ≡ found_by run (Disarm i) → IsRun size (record { pass = r.pass; kind = Disarm i; found = v } ∷ run)
     disarm_run v is = subst (λ y. IsRun size (record { pass = r.pass; kind = Disarm i; found = y } ∷ run)) (sym is) (grows_by_insert_disarm size run x.history_is.is_run r.pass x.from x.to i inside' run_seen)

@@ -1,6 +1,6 @@
 -- What a step or a note under the lock may do to the table.
-use Rattle.std.proofs.Common.{◌≡◌, ◌≢◌, ℕ, zero, suc, ◌<◌, ◌≤◌, ⊎_elim, true, false, ◌||◌, List, [], ◌∷◌, ◌++◌, set, Option, Some, None, refl, sym, ap, ◌∙◌, subst, arith}
-use Rattle.csq_words.proofs.Imports.{set-get_or, cases_lt, false_from_ne_true, slice_index, some, none, some-injective, get_elem?, Allows, step, keeps, set_here, inside_of, owes_in, holds_in, removed_in, PassId, Kind, Arm, Test, Disarm, End, Out, Rearm, Made, number, life_of, IrpLife, armed, flagged, cancel, routine, found_by, owes, holds, listed, IsPresent, inside, has_lock, Size, OfIrp, same_irp-refl, inserted_listed, Call, Event, HistoryEntry, Reusing, Nothing, PassRecord, QueueRecord, View, cancel_at, routine_at, bit_word, life_in, bit_in, present_in, has_entry, has_irp, has_marked, given_to, end_of, MayStand, IsOrderly, OwnersPutBack, view_of, queue_in, pass_in, queue_of, entries_of, with_events, with_calls, with_step, with_trace, with_back, HasQueue, IsOfCall, IsExtendedBy, Tick, steps_in, HasSeen, HasWords, is_done, in_flight, AreTrueOf, IsReuse, IsHistoryOf, IsPassOf, IsRecord, IsResting, IsBack, IsOut, BackOnce, Fits, RuleHoldsBy, RuleHolds, recorded, MayRemove, MayMake, MayComeBack, MayNote, after_note, SeatView, IsFound, FindsUnmarked, MakesStep, ObservesNote, Notes, owes_in-own, holds_in-own}
+use Rattle.std.proofs.Common.{◌≡◌, ◌≢◌, ℕ, zero, suc, ◌<◌, ◌≤◌, ⊎_elim, true, false, ◌||◌, List, [], ◌∷◌, ◌++◌, set, Option, Some, None, refl, sym, ap, ◌∙◌, subst, arith, Bool, not}
+use Rattle.csq_words.proofs.Imports.{set-get_or, cases_lt, false_from_ne_true, slice_index, some, none, some-injective, get_elem?, Allows, step, keeps, set_here, inside_of, owes_in, holds_in, removed_in, PassId, Kind, Arm, Test, Disarm, End, Out, Rearm, Made, number, life_of, IrpLife, armed, flagged, cancel, found_by, owes, holds, listed, IsPresent, inside, has_lock, Size, OfIrp, same_irp-refl, inserted_listed, Call, Event, HistoryEntry, Reusing, Nothing, PassRecord, QueueRecord, View, cancel_at, routine_at, bit_word, life_in, bit_in, present_in, has_entry, has_irp, has_marked, given_to, end_of, MayStand, IsOrderly, OwnersPutBack, view_of, queue_in, pass_in, queue_of, entries_of, with_events, with_calls, with_step, with_trace, with_back, HasQueue, IsOfCall, IsExtendedBy, Tick, steps_in, HasSeen, HasWords, is_done, in_flight, AreTrueOf, IsHistoryOf, IsPassOf, IsRecord, IsResting, IsBack, IsOut, BackOnce, Fits, RuleHoldsBy, RuleHolds, recorded, MayRemove, MayMake, MayComeBack, MayNote, after_note, SeatView, IsFound, FindsUnmarked, MakesStep, ObservesNote, Notes, owes_in-own, holds_in-own, SaysRoutine, IsRoutineWord, was_armed, has_gone, and_parts, IsRun}
 use Rattle.irp_core.specs.declared.inside.Inside.TheVariants.{Armed, FlagSeen, Rearmed, FlagSeenAgain}
 use Rattle.irp_core.specs.declared.inside.Inside.TheVariants as inner
 use Rattle.irp_core.proofs.Resting.{unknown_stands}
@@ -12,11 +12,10 @@ use Rattle.csq_words.specs.declared.views.InsertReply.TheVariants as reply
 use Rattle.csq_words.specs.declared.views.Event.TheVariants as event
 use Rattle.csq_words.specs.declared.views.Tick.TheVariants.{Leaves}
 use Rattle.csq_words.specs.Traces.{IsTrace, IsNextStep, says}
-use Rattle.csq_words.proofs.Facts.{off, extended_on, bit_bound, bit_true, set_listed, listed_now, listed_undone, open_now, open_undone}
+use Rattle.csq_words.proofs.Facts.{off, extended_on, bit_bound, bit_true, set_listed, listed_now, listed_undone, open_now, open_undone, fresh}
 use Rattle.csq_words.proofs.Decoding.{life_in-put, bit_in-put}
 use Rattle.csq_words.proofs.Indexes.{at_below}
 use Rattle.csq_words.proofs.Changes.{present_is}
-use Rattle.csq_words.proofs.PassSteps.{routine_here}
 use Rattle.csq_words.proofs.Keeping.{none_is, seen_more, seen_alone, same_history, all_set, present_else, apart_from, only_joined, at_queue, inside_is, free_flight, agrees_same}
 use Rattle.csq_words.proofs.SeatSteps.{LockedStep, locked_step}
 use Rattle.csq_words.proofs.Traced.{steps_says, step_traced, note_traced, traced_noted, traced_leaves}
@@ -24,8 +23,8 @@ use Rattle.csq_words.proofs.Entries.{begins_more, calls_of-other, calls_of-mine}
 use Rattle.csq_words.proofs.Marks.{marked_taken}
 use Rattle.csq_words.proofs.Marking.{next_first, unmarked_else}
 use Rattle.csq_words.proofs.CallSteps.{Sees, sees, IsMade, ObservedAfter, agreed_kept, made_trace, made_record, made_kept}
-use Rattle.csq_words.proofs.PutBackSteps.{rearm_made, back_now, rearm_finds, test_again_made, disarm_again_made}
-use Rattle.csq_words.proofs.InsertSteps.{undone, arm_made, arm_finds, test_made, disarm_made}
+use Rattle.csq_words.proofs.PutBackSteps.{rearm_made, back_now, rearm_finds, test_again_made, disarm_again_made, gone}
+use Rattle.csq_words.proofs.InsertSteps.{undone, arm_made, test_made, disarm_made, never_armed}
 use Rattle.csq_words.proofs.RemovalSteps.{TakesOut, next_listed, entries_are, miss_made, hit_made, end_made, out_made}
 
 -- the words after a step of this kind
@@ -34,6 +33,13 @@ words_after (Arm i) words = set words (routine_at i.irp) (bit_word (life_of i) 1
 words_after (Rearm i) words = set words (routine_at i.irp) (bit_word (life_of i) 1)
 words_after (Disarm i) words = set words (routine_at i.irp) (bit_word (life_of i) 0)
 words_after _ words = words
+
+-- whether the word that a step finds is of its IRP's life before it: that of a routine once the IRP was armed
+abbrev had_routine : List Made → Kind → Bool
+had_routine run (Arm j) = was_armed run j
+had_routine run (Disarm j) = was_armed run j
+had_routine run (Rearm j) = was_armed run j
+had_routine run kind = true
 
 module _ (size : Size) (words : List ℕ) (run : List Made) (q : QueueRecord) (r : PassRecord) (x : Sees size words run q r) where
   -- what is found armed isn't marked
@@ -91,15 +97,23 @@ module _ (size : Size) (words : List ℕ) (run : List Made) (q : QueueRecord) (r
   at_listed : (i : IrpLife) → listed run i ≡ true → IsPresent size.first run i × (is_done run i ≡ false)
   at_listed i l = (listed_now size run x.history_is.is_run i l, listed_undone size run x.history_is.is_run i l)
 
+  -- what a Disarm exchanges is listed
+  disarms_listed : (call : Call) (j : IrpLife) → MayMake call (Disarm j) q r → listed run j ≡ true
+  disarms_listed (Insert m f place) j (e, seen) = inserted_listed size run x.history_is.is_run r.pass j (rw (← x.same, seen) (same_irp-refl j))
+  disarms_listed (RemoveNext k) j (removes, next) = sym (entries_are size words run q r x removes j) ∙ next_listed k (queue_of q).entries j next
+  disarms_listed (Remove i) j (e, removes, there) = sym (entries_are size words run q r x removes j) ∙ (ap (has_entry (queue_of q).entries) e ∙ there)
+  disarms_listed (PutBack i f place) j (e, seen) = inserted_listed size run x.history_is.is_run r.pass j (rw (← x.same, seen) (same_irp-refl j))
+  disarms_listed call j may = absurd may
+
   -- the IRP of such a step is in its present life, and isn't completed there
   at_hand : (call : Call) (kind : Kind) → MayMake call kind q r → OfIrp (λ i. number i < size.irps) kind → OfIrp (λ i. IsPresent size.first run i × (is_done run i ≡ false)) kind
   at_hand (Insert m f place) (Arm j) (e, outside, unused) known =
       subst (λ (l : IrpLife). has_irp (queue_of q).used l ≡ false → IsPresent size.first run l × (is_done run l ≡ false)) (sym e)
       (λ unused. (x.history_is.lives_are m, undone size words run q r x m f place (subst (λ (l : IrpLife). number l < size.irps) e known) outside unused)) unused
   at_hand (Insert m f place) (Test j) (e, after_arm) known = at_listed j (inserted_listed size run x.history_is.is_run r.pass j (rw (← x.same, after_arm) (same_irp-refl j)))
-  at_hand (Insert m f place) (Disarm j) (e, seen) known = at_listed j (inserted_listed size run x.history_is.is_run r.pass j (rw (← x.same, seen) (same_irp-refl j)))
-  at_hand (RemoveNext k) (Disarm j) (removes, next) known = at_listed j (sym (entries_are size words run q r x removes j) ∙ next_listed k (queue_of q).entries j next)
-  at_hand (Remove i) (Disarm j) (e, removes, there) known = at_listed j (sym (entries_are size words run q r x removes j) ∙ (ap (has_entry (queue_of q).entries) e ∙ there))
+  at_hand (Insert m f place) (Disarm j) may known = at_listed j (disarms_listed (Insert m f place) j may)
+  at_hand (RemoveNext k) (Disarm j) may known = at_listed j (disarms_listed (RemoveNext k) j may)
+  at_hand (Remove i) (Disarm j) may known = at_listed j (disarms_listed (Remove i) j may)
   at_hand (RemoveNext k) End may known = tt
   at_hand (Remove i) End may known = tt
   at_hand (CancelRoutine m) (Out j) (e, outside, owed) known =
@@ -107,28 +121,40 @@ module _ (size : Size) (words : List ℕ) (run : List Made) (q : QueueRecord) (r
       (open_now size run x.history_is.is_run j r.pass open', open_undone size run x.history_is.is_run j r.pass open')
   at_hand (PutBack i f place) (Rearm j) (e, outside, held, got) known = back_now size words run q r x j f place known outside held got
   at_hand (PutBack i f place) (Test j) (e, after) known = at_listed j (inserted_listed size run x.history_is.is_run r.pass j (rw (← x.same, after) (same_irp-refl j)))
-  at_hand (PutBack i f place) (Disarm j) (e, seen) known = at_listed j (inserted_listed size run x.history_is.is_run r.pass j (rw (← x.same, seen) (same_irp-refl j)))
+  at_hand (PutBack i f place) (Disarm j) may known = at_listed j (disarms_listed (PutBack i f place) j may)
   at_hand call kind may known = absurd may
 
   -- what such a step finds
-  finds : (call : Call) (kind : Kind) → MayMake call kind q r → OfIrp (λ i. number i < size.irps) kind → (w : ℕ) → OfIrp (λ i. w ≡ bit_word (life_of i) (found_by run kind)) kind → IsFound kind w
+  finds : (call : Call) (kind : Kind) → MayMake call kind q r → OfIrp (λ i. number i < size.irps) kind → (w : ℕ) → OfIrp (λ i. SaysRoutine w (life_of i) (had_routine run kind) (found_by run kind)) kind → IsFound kind w
   finds (Insert m f place) (Arm j) (e, outside, unused) known w is =
-      is ∙ ap (bit_word (life_of j)) (subst (λ (l : IrpLife). has_irp (queue_of q).used l ≡ false → found_by run (Arm l) ≡ 0) (sym e) (λ unused. arm_finds size words run q r x m f place (subst (λ (l : IrpLife). number l < size.irps) e known) outside unused) unused)
+      subst (λ a. SaysRoutine w (life_of j) a (found_by run (Arm j)))
+      (subst (λ (l : IrpLife). has_irp (queue_of q).used l ≡ false → was_armed run l ≡ false) (sym e) (λ unused. never_armed size words run q r x m f place (subst (λ (l : IrpLife). number l < size.irps) e known) outside unused) unused)
+      is
   finds call (Test j) may known w is = ap life_in is ∙ life_in-put (life_of j) _ (bit_bound (flagged run j))
-  finds call (Disarm j) may known w is = ap life_in is ∙ life_in-put (life_of j) _ (bit_bound (armed run j))
-  finds (PutBack i f place) (Rearm j) (e, outside, held, got) known w is = is ∙ ap (bit_word (life_of j)) (rearm_finds size words run q r x j f place known outside held got)
+  finds call (Disarm j) may known w is =
+      let armed_is = (and_parts (was_armed run j) (not (has_gone run j)) (disarms_listed call j may)).0 in
+      ap life_in (subst (λ a. SaysRoutine w (life_of j) a (found_by run (Disarm j))) armed_is is) ∙ life_in-put (life_of j) _ (bit_bound (armed run j))
+  finds (PutBack i f place) (Rearm j) (e, outside, held, got) known w is =
+      subst (λ a. SaysRoutine w (life_of j) a (found_by run (Rearm j))) (gone size words run q r x j f place known outside held got).2 is
+      ∙ ap (bit_word (life_of j)) (rearm_finds size words run q r x j f place known outside held got)
   finds call End may known w is = tt
   finds call (Out j) may known w is = tt
   finds call kind may known w is = absurd may
+
+-- the bit of a word that says it
+says_bit : (w life : ℕ) (a : Bool) (b : ℕ) → b < 2 → (a ≡ false → b ≡ 0) → SaysRoutine w life a b → bit_in w ≡ b
+says_bit w life true b few none' h = ap bit_in h ∙ bit_in-put life b few
+says_bit w life false b few none' h = h.0 ∙ sym (none' refl)
 
 -- an exchange or a load at this place is a step of this kind, of i
 record IsStepAt (size : Size) (i : IrpLife) (kind : Kind) (at : ℕ) (f : ℕ → ℕ) : Type 0 where
   changes : (words : List ℕ) → set words at (f (slice_index words at)) ≡ words_after kind words
   known : OfIrp (λ j. number j < size.irps) kind
   names : (run : List Made) → OfIrp (λ j. IsPresent size.first run j × (is_done run j ≡ false)) kind → IsPresent size.first run i × (is_done run i ≡ false)
-  says : (run : List Made) (w : ℕ) → w ≡ bit_word (life_of i) (found_by run kind) → OfIrp (λ j. w ≡ bit_word (life_of j) (found_by run kind)) kind
+  says : (run : List Made) (w : ℕ) → SaysRoutine w (life_of i) (had_routine run kind) (found_by run kind) → OfIrp (λ j. SaysRoutine w (life_of j) (had_routine run kind) (found_by run kind)) kind
   bound : (run : List Made) → found_by run kind < 2
-  found_is : (words : List ℕ) (run : List Made) (reuse : Reusing) → HasWords size.first words run reuse i.irp → IsPresent size.first run i → is_done run i ≡ false → IsReuse size run reuse → slice_index words at ≡ bit_word (life_of i) (found_by run kind)
+  unset : (run : List Made) → IsRun size run → had_routine run kind ≡ false → found_by run kind ≡ 0
+  found_is : (words : List ℕ) (run : List Made) (reuse : Reusing) → HasWords size.first words run reuse i.irp → IsPresent size.first run i → SaysRoutine (slice_index words at) (life_of i) (had_routine run kind) (found_by run kind)
 
 of_call : (call : Call) (kind : Kind) (q : QueueRecord) (r : PassRecord) → MayMake call kind q r → IsOfCall call kind (queue_of q)
 of_call (Insert n f place) (Arm j) q r may = may.0
@@ -187,9 +213,9 @@ makes size slots id q r held call i kind at f a inside' p may s h _ here _ =
     let x = sees size s.words s.views trace id q r seat k in
     let w = slice_index s.words at in
     let hand : IsPresent size.first run i × (is_done run i ≡ false) = p.names run (at_hand size s.words run q r x call kind may p.known) in
-    let word : w ≡ bit_word (life_of i) (found_by run kind) = p.found_is s.words run q.reusing (x.words_are i.irp inside') hand.0 hand.1 x.reuse_is in
+    let word : SaysRoutine w (life_of i) (had_routine run kind) (found_by run kind) = p.found_is s.words run q.reusing (x.words_are i.irp inside') hand.0 in
     let found = bit_in w in
-    let is : found ≡ found_by run kind = ap bit_in word ∙ bit_in-put (life_of i) (found_by run kind) (p.bound run) in
+    let is : found ≡ found_by run kind = says_bit w (life_of i) (had_routine run kind) (found_by run kind) (p.bound run) (p.unset run x.history_is.is_run) word in
     let es = recorded call kind found (queue_of q) in
     let r' = with_calls es (with_step kind found r) in
     let m : Made = record { pass = r.pass; kind = kind; found = found } in
@@ -211,7 +237,8 @@ arm_at size i inside' = record {
   names = λ run h. h;
   says = λ run w h. h;
   bound = λ run. bit_bound (armed run i);
-  found_is = λ words run reuse w now undone may. w.routine_is ∙ ap (λ (j : IrpLife). bit_word (life_of j) (routine run j)) (routine_here size run i now undone reuse may);
+  unset = λ run is_run e. (fresh size run is_run i e).0;
+  found_is = λ words run reuse w now. subst (λ (j : IrpLife). IsRoutineWord (slice_index words (routine_at i.irp)) run j) (present_is size.first run i now) w.routine_is;
 }
 
 rearm_at : (size : Size) (i : IrpLife) → number i < size.irps → IsStepAt size i (Rearm i) (routine_at i.irp) (λ _. bit_word (life_of i) 1)
@@ -221,7 +248,8 @@ rearm_at size i inside' = record {
   names = λ run h. h;
   says = λ run w h. h;
   bound = λ run. bit_bound (armed run i);
-  found_is = λ words run reuse w now undone may. w.routine_is ∙ ap (λ (j : IrpLife). bit_word (life_of j) (routine run j)) (routine_here size run i now undone reuse may);
+  unset = λ run is_run e. (fresh size run is_run i e).0;
+  found_is = λ words run reuse w now. subst (λ (j : IrpLife). IsRoutineWord (slice_index words (routine_at i.irp)) run j) (present_is size.first run i now) w.routine_is;
 }
 
 disarm_at : (size : Size) (i : IrpLife) → number i < size.irps → IsStepAt size i (Disarm i) (routine_at i.irp) (λ _. bit_word (life_of i) 0)
@@ -231,7 +259,8 @@ disarm_at size i inside' = record {
   names = λ run h. h;
   says = λ run w h. h;
   bound = λ run. bit_bound (armed run i);
-  found_is = λ words run reuse w now undone may. w.routine_is ∙ ap (λ (j : IrpLife). bit_word (life_of j) (routine run j)) (routine_here size run i now undone reuse may);
+  unset = λ run is_run e. (fresh size run is_run i e).0;
+  found_is = λ words run reuse w now. subst (λ (j : IrpLife). IsRoutineWord (slice_index words (routine_at i.irp)) run j) (present_is size.first run i now) w.routine_is;
 }
 
 test_at : (size : Size) (i : IrpLife) → number i < size.irps → IsStepAt size i (Test i) (cancel_at i.irp) (λ n. n)
@@ -241,7 +270,8 @@ test_at size i inside' = record {
   names = λ run h. h;
   says = λ run w h. h;
   bound = λ run. bit_bound (flagged run i);
-  found_is = λ words run reuse w now undone may. w.cancel_is ∙ ap (λ (j : IrpLife). bit_word (life_of j) (cancel run j)) (present_is size.first run i now);
+  unset = λ run is_run e. off (sym e);
+  found_is = λ words run reuse w now. w.cancel_is ∙ ap (λ (j : IrpLife). bit_word (life_of j) (cancel run j)) (present_is size.first run i now);
 }
 
 module _ (size : Size) (slots id : ℕ) (m : SeatView) (q : QueueRecord) (r : PassRecord) (is : m.0 ≡ view_of q (Some r)) (call : Call) (kind : Kind) (i : IrpLife) (inside' : number i < size.irps) (other : Size) (sized : other ≡ size) where

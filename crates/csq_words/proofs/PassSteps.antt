@@ -1,15 +1,15 @@
 -- The steps of a pass's own seat keep the rule.
 use Rattle.std.proofs.Common.{◌≡◌, ◌≢◌, ℕ, ◌+◌, ◌*◌, ◌^◌, ◌<◌, ◌≤◌, ◌==◌, inl, Bool, true, false, cond, if◌then◌else◌, List, [], ◌∷◌, ◌++◌, Some, None, length, set, Option, eqb-true, eq-eqb, refl, sym, ap, ◌∙◌, subst, arith, length-set, get_or-set_same}
 use prog.Atomic.{either}
-use Rattle.csq_words.proofs.Imports.{by_value, false_from_ne_true, or_right, set-get_or, slice_index, some, none, get_elem?, Allows, step, keeps, inside_of, holds_in, removed_in, IrpId, PassId, NtStatus, Flag, Take, Done, Made, Inside, number, life_of, same_id, IrpLife, bit, armed, flagged, cancel, routine, found_by, has_lock, owes, holds, removed, last_life, present_life, present, IsPresent, Size, IsRun, same_pass-refl, life_bound, grows_by_flag, grows_by_take, grows_by_done, Pending, Cancelled, Refused, Event, Insert, RemoveNext, Remove, Reuse, PutBack, HistoryEntry, QueueState, after_event, Reusing, Looked, StatusRenewed, RoutineRenewed, Completion, PassRecord, QueueRecord, View, pass_view, with_step, with_completion, with_life, saw, CANCELLED, end_of, cancel_at, routine_at, status_at, bit_word, life_in, bit_in, unset_word, status_word, status_life_in, status_in, renewed_routine, renewed_status, stands_for, is_done, SaysStatus, HasWords, AreTrueOf, MayRenew, IsReuse, IsStored, in_flight, IsHistoryOf, IsPassOf, IsExtendedBy, Tick, Makes, steps_in, IsOut, IsRecord, RuleHoldsBy, RuleHolds, SeatView, life_found, after_flag, SeesFlag, Flags, taken_by, Takes, Completes, own-mine, holds_in-own, removed_in-own}
+use Rattle.csq_words.proofs.Imports.{by_value, false_from_ne_true, or_right, set-get_or, slice_index, some, none, get_elem?, Allows, step, keeps, inside_of, holds_in, removed_in, IrpId, PassId, NtStatus, Flag, Take, Done, Made, Inside, number, life_of, same_id, IrpLife, bit, armed, flagged, cancel, routine, found_by, has_lock, owes, holds, removed, last_life, present_life, present, IsPresent, Size, IsRun, same_pass-refl, life_bound, grows_by_flag, grows_by_take, grows_by_done, Pending, Cancelled, Refused, Event, Insert, RemoveNext, Remove, Reuse, PutBack, HistoryEntry, QueueState, after_event, Reusing, Looked, StatusRenewed, Completion, PassRecord, QueueRecord, View, pass_view, with_step, with_completion, with_life, saw, CANCELLED, end_of, cancel_at, routine_at, status_at, bit_word, life_in, bit_in, unset_word, status_word, status_life_in, status_in, renewed_status, stands_for, is_done, SaysStatus, HasWords, AreTrueOf, MayRenew, IsReuse, IsStored, in_flight, IsHistoryOf, IsPassOf, IsExtendedBy, Tick, Makes, steps_in, IsOut, IsRecord, RuleHoldsBy, RuleHolds, SeatView, life_found, after_flag, SeesFlag, Flags, taken_by, Takes, Completes, own-mine, holds_in-own, removed_in-own, SaysRoutine, IsRoutineWord, was_armed}
 use Rattle.irp_core.specs.declared.inside.Inside.TheVariants.{Nothing, Cancelling}
 use Rattle.csq_words.specs.declared.views.Reusing.TheVariants as reusing
-use Rattle.csq_words.proofs.Facts.{off, due_more, given_take, bit_bound, bit_true, set_listed, listed_now, listed_undone, open_now, open_undone}
+use Rattle.csq_words.proofs.Facts.{off, due_more, given_take, bit_bound, bit_true, set_listed, listed_now, open_now, open_undone}
 use Rattle.csq_words.proofs.Named.{by_id, irp_eq, same_id-not}
 use Rattle.csq_words.proofs.Decoding.{life_in-put, bit_in-put, status_life_in-unset, status_life_in-put, status_in-unset, status_in-put}
 use Rattle.csq_words.proofs.Keeping.{inside_is}
 use Rattle.csq_words.proofs.SeatSteps.{OwnStep, own_step, longer_step, begun_more}
-use Rattle.csq_words.proofs.Changes.{present_is, routine_of, status_of, stands_irp, flag_words, take_words, miss_words, done_words, stored_else, stored_put, stored_first, status_routine, status_cancel}
+use Rattle.csq_words.proofs.Changes.{present_is, status_of, flag_words, take_words, miss_words, done_words, stored_else, stored_put, stored_first, status_routine, status_cancel}
 
 -- every IRP of the words has those of the run
 abbrev pub AllWords : Size → List ℕ → List Made → Reusing → Type 0
@@ -25,18 +25,14 @@ module _ (size : Size) (run : List Made) (i : IrpLife) (now : IsPresent size.fir
       same : (j : IrpLife) → MayRenew size run j → j.irp ≡ i.irp → j ≡ i
       same j may e = sym (present_is size.first run j may.is_present) ∙ (ap (present size.first run) e ∙ present_is size.first run i now)
 
-  unrenewed : (reuse : Reusing) → IsReuse size run reuse → (renewed_routine reuse i.irp ≡ false) × (renewed_status reuse i.irp ≡ false)
-  unrenewed reusing.Nothing h = (refl, refl)
-  unrenewed (Looked j) h = (refl, refl)
-  unrenewed (StatusRenewed j) h = (refl, apart j h)
-  unrenewed (RoutineRenewed j) h = (apart j h, apart j h)
+  unrenewed : (reuse : Reusing) → IsReuse size run reuse → renewed_status reuse i.irp ≡ false
+  unrenewed reusing.Nothing h = refl
+  unrenewed (Looked j) h = refl
+  unrenewed (StatusRenewed j) h = apart j h
 
-  -- so its words stand for it
-  pub routine_here : (reuse : Reusing) → IsReuse size run reuse → routine_of size.first run reuse i.irp ≡ i
-  routine_here reuse h = ap (λ b. stands_for b (present size.first run i.irp)) (unrenewed reuse h).0 ∙ present_is size.first run i now
-
+  -- so its status word stands for it
   pub status_here : (reuse : Reusing) → IsReuse size run reuse → status_of size.first run reuse i.irp ≡ i
-  status_here reuse h = ap (λ b. stands_for b (present size.first run i.irp)) (unrenewed reuse h).1 ∙ present_is size.first run i now
+  status_here reuse h = ap (λ b. stands_for b (present size.first run i.irp)) (unrenewed reuse h) ∙ present_is size.first run i now
 
 -- the word after an exchange of a clear flag for a set one
 flag_put : (w g : ℕ) (b : Bool) → w ≡ bit_word g (bit b) → either (w == bit_word g 0) (bit_word g 1) w ≡ bit_word g 1
@@ -226,20 +222,26 @@ module _ (size : Size) (words : List ℕ) (run : List Made) (reuse : Reusing) (i
   -- an IRP whose routine is set has it in its word
   set_word : armed run i ≡ true → slice_index words (routine_at i.irp) ≡ bit_word (life_of i) 1
   set_word a =
-      let there = (set_listed size run is_run i a).1 in
-      let here = routine_here size run i (listed_now size run is_run i there) (listed_undone size run is_run i there) reuse may in
-      (ws i.irp known).routine_is ∙ (ap (λ (j : IrpLife). bit_word (life_of j) (routine run j)) here ∙ ap (λ b. bit_word (life_of i) (bit b)) a)
+      let there = set_listed size run is_run i a in
+      subst (λ (z : Bool × ℕ). SaysRoutine (slice_index words (routine_at i.irp)) (life_of i) z.0 z.1) (λ k. (there.0 k, ap bit a k))
+      (subst (λ (j : IrpLife). IsRoutineWord (slice_index words (routine_at i.irp)) run j) (present_is size.first run i (listed_now size run is_run i there.1)) (ws i.irp known).routine_is)
 
   -- and no other word says so
-  word_set : slice_index words (routine_at i.irp) ≡ bit_word (life_of i) 1 → (armed run i ≡ true) × (routine_of size.first run reuse i.irp ≡ i)
-  word_set e =
-      let j = routine_of size.first run reuse i.irp in
-      let is = sym (ws i.irp known).routine_is ∙ e in
-      let bound = bit_bound (armed run j) in
-      let life : life_of j ≡ life_of i = sym (life_in-put (life_of j) (routine run j) bound) ∙ (ap life_in is ∙ life_in-put (life_of i) 1 (omega arith)) in
-      let one : routine run j ≡ 1 = sym (bit_in-put (life_of j) (routine run j) bound) ∙ (ap bit_in is ∙ bit_in-put (life_of i) 1 (omega arith)) in
-      let same : j ≡ i = irp_eq j i (stands_irp (renewed_routine reuse i.irp) (present size.first run i.irp)) life in
-      (bit_true (armed run i) 1 (sym (sym (ap (routine run) same) ∙ one)) (omega arith), same)
+  word_set : slice_index words (routine_at i.irp) ≡ bit_word (life_of i) 1 → (armed run i ≡ true) × (present size.first run i.irp ≡ i)
+  word_set e = go (was_armed run j) (ws i.irp known).routine_is
+    where
+      j : IrpLife
+      j = present size.first run i.irp
+
+      go : (a : Bool) → SaysRoutine (slice_index words (routine_at i.irp)) (life_of j) a (routine run j) → (armed run i ≡ true) × (j ≡ i)
+      go false h = let one = sym h.0 ∙ (ap bit_in e ∙ bit_in-put (life_of i) 1 (omega arith)) in absurd (omega (arith, one))
+      go true h =
+          let is = sym h ∙ e in
+          let bound = bit_bound (armed run j) in
+          let life : life_of j ≡ life_of i = sym (life_in-put (life_of j) (routine run j) bound) ∙ (ap life_in is ∙ life_in-put (life_of i) 1 (omega arith)) in
+          let one : routine run j ≡ 1 = sym (bit_in-put (life_of j) (routine run j) bound) ∙ (ap bit_in is ∙ bit_in-put (life_of i) 1 (omega arith)) in
+          let same : j ≡ i = irp_eq j i refl life in
+          (bit_true (armed run i) 1 (sym (sym (ap (routine run) same) ∙ one)) (omega arith), same)
 
   -- so a take finds 1 exactly where it exchanges the word
   take_finds : taken_by i (slice_index words (routine_at i.irp)) ≡ found_by run (Take i)

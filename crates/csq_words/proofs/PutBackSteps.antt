@@ -1,16 +1,15 @@
 -- The steps of a put-back: rearm, test, disarm.
 use Rattle.std.proofs.Common.{◌≡◌, ℕ, zero, suc, ◌<◌, true, false, cond, not, ◌&&◌, ◌||◌, List, [], ◌∷◌, map, set, refl, sym, ap, ◌∙◌, subst, arith, length-set}
-use Rattle.csq_words.proofs.Imports.{by_value, and-false, and_parts, and_from, or_right, false_from_ne_true, inside_of, holds_in, removed_in, FileId, Test, Disarm, Rearm, Made, number, life_of, same_irp, is, found_one, own, IrpLife, IsPresent, bit, armed, flagged, was_armed, found_by, inside, owes, holds, has_gone, listed, removed, holds_removed, Size, IsRun, same_irp-refl, same_irp-eq, own_made, own_stays, holds_in-own, removed_in-own, inserted_listed, grows_by_rearm, grows_by_test_again, grows_by_disarm_again, Place, put_at, Pending, Completion, PassRecord, QueueRecord, has_entry, has_irp, new_entry, IsGone, given_to, queue_of, routine_at, bit_word, WasCancelled, is_done, was_put_back, inserts, lists, again, passes_given, recorded}
+use Rattle.csq_words.proofs.Imports.{by_value, and-false, and_parts, and_from, or_right, false_from_ne_true, inside_of, holds_in, removed_in, FileId, Test, Disarm, Rearm, Made, number, life_of, same_irp, is, found_one, own, IrpLife, IsPresent, bit, armed, flagged, was_armed, found_by, inside, owes, holds, has_gone, listed, removed, holds_removed, Size, IsRun, same_irp-refl, same_irp-eq, own_made, own_stays, holds_in-own, removed_in-own, inserted_listed, grows_by_rearm, grows_by_test_again, grows_by_disarm_again, Place, put_at, Pending, Completion, PassRecord, QueueRecord, has_entry, has_irp, new_entry, IsGone, given_to, queue_of, routine_at, bit_word, WasCancelled, is_done, was_put_back, inserts, lists, again, passes_given, recorded, present}
 use Rattle.irp_core.specs.declared.inside.Inside.TheVariants.{Nothing, Rearmed, FlagSeenAgain}
 use Rattle.csq_words.specs.declared.calls.Call.TheVariants.{PutBack}
 use Rattle.csq_words.specs.declared.views.Event.TheVariants as event
-use Rattle.csq_words.proofs.Facts.{off, due_more, due_rearm, given_miss, given_hit, held_gone, here_not_gone, undone_own, completed_in_done, open_now, open_undone, set_listed, listed_now, listed_undone, listed_taken, flag_seen_again, rearmed_own, seen_again_own, bit_true, bit_bound, again_disarm, held_given}
+use Rattle.csq_words.proofs.Facts.{off, due_more, due_rearm, given_miss, given_hit, held_gone, here_not_gone, undone_own, completed_in_done, open_now, open_undone, set_listed, listed_now, listed_taken, flag_seen_again, rearmed_own, seen_again_own, bit_true, bit_bound, again_disarm, held_given}
 use Rattle.csq_words.proofs.Named.{by_irp, same_irp-is}
 use Rattle.csq_words.proofs.Truths.{true_stays, truths_stay}
-use Rattle.csq_words.proofs.Changes.{routine_of, rearm_words, disarm_words, test_words, stored_else, status_routine}
+use Rattle.csq_words.proofs.Changes.{present_is, rearm_words, disarm_words, test_words, stored_else, status_routine}
 use Rattle.csq_words.proofs.Entries.{has_entry-placed, has_entry-marking}
 use Rattle.csq_words.proofs.Marking.{placed_unmarked}
-use Rattle.csq_words.proofs.PassSteps.{routine_here}
 use Rattle.csq_words.proofs.SeatSteps.{reuse_more}
 use Rattle.csq_words.proofs.CallSteps.{Sees, IsMade}
 use Rattle.csq_words.proofs.InsertSteps.{joins, listed_miss, listed_hit}
@@ -33,7 +32,7 @@ module _ (size : Size) (words : List ℕ) (run : List Made) (q : QueueRecord) (r
     back_now = (open_now size run is_run i r.pass open', open_undone size run is_run i r.pass open')
 
     -- it isn't listed, and has no routine
-    gone : (armed run i ≡ false) × (listed run i ≡ false) × (was_armed run i ≡ true)
+    pub gone : (armed run i ≡ false) × (listed run i ≡ false) × (was_armed run i ≡ true)
     gone = held_gone size run is_run i r.pass held_run
 
     pub rearm_finds : found_by run (Rearm i) ≡ 0
@@ -50,7 +49,7 @@ module _ (size : Size) (words : List ℕ) (run : List Made) (q : QueueRecord) (r
         let wide = x.wide in record {
           wide = length-set words (routine_at i.irp) (bit_word (life_of i) 1);
           is_run = longer;
-          words_are = λ j l. rearm_words size.first words run q.reusing r.pass i v j (x.words_are j l) 1 (omega arith) (routine_here size run i back_now.0 back_now.1 q.reusing x.reuse_is) refl back_now.1;
+          words_are = λ j l. rearm_words size.first words run q.reusing r.pass i v j (x.words_are j l) 1 (omega arith) (present_is size.first run i back_now.0) refl back_now.1 gone.2;
           reuse_is = reuse_more size m run (λ l. refl) q.reusing x.reuse_is;
           inert = λ is. refl;
           stored = λ cs h. stored_else words (routine_at i.irp) (bit_word (life_of i) 1) cs (λ j. status_routine j i.irp) h;
@@ -157,8 +156,8 @@ module _ (size : Size) (words : List ℕ) (run : List Made) (q : QueueRecord) (r
     put_back_stays : (m : Made) → m.pass ≡ r.pass → was_put_back (own r.pass (m ∷ run)) i ≡ true
     put_back_stays m mine = own_stays r.pass m run mine (is (Rearm i)) (seen_again_own size run is_run r.pass i run_seen)
 
-    here : routine_of size.first run q.reusing i.irp ≡ i
-    here = routine_here size run i (listed_now size run is_run i listed_of_seen) (listed_undone size run is_run i listed_of_seen) q.reusing x.reuse_is
+    here : present size.first run i.irp ≡ i
+    here = present_is size.first run i (listed_now size run is_run i listed_of_seen)
 
     disarm_run : (v : ℕ) → v ≡ found_by run (Disarm i) → IsRun size (record { pass = r.pass; kind = Disarm i; found = v } ∷ run)
     disarm_run v is = subst (λ y. IsRun size (record { pass = r.pass; kind = Disarm i; found = y } ∷ run)) (sym is) (grows_by_disarm_again size run is_run r.pass x.from x.to i inside' run_seen)

@@ -3,12 +3,11 @@ use Rattle.std.proofs.Common.{◌≡◌, ℕ, ◌<◌, true, false, cond, not, �
 use Rattle.csq_words.proofs.Imports.{by_value, and-false, or_right, inside_of, owes_in, was_removed_in, PassId, Disarm, End, Out, Made, Inside, number, life_of, same_irp, is, own, IrpLife, present, IrpId, armed, found_by, was_armed, after_disarm, follows, in_insert, owes, listed, taken, removed, Size, IsRun, same_irp-refl, grows_by_removal_disarm, grows_by_end, grows_by_out, Peek, Event, Mark, PassRecord, QueueRecord, Queued, QueueState, has_entry, has_unmarked, has_irp, marking, without, after_event, end_of, MayStand, IsOrderly, given_to, puts_back, OwnersPutBack, HistoryEntry, queue_of, entries_of, routine_at, bit_word, inserts, lists, again, passes_given, WasCancelled, IsTrueOf, AreTrueOf, due_mark, IsNextMatch, MayRemove, own-mine, own_made, owes_in-own}
 use Rattle.irp_core.specs.declared.inside.Inside.TheVariants.{Nothing, Removing}
 use Rattle.csq_words.specs.declared.views.Event.TheVariants as event
-use Rattle.csq_words.proofs.Facts.{off, due_more, given_hit, given_miss, given_out, bit_true, owed_listed, listed_taken, listed_now, listed_undone, again_disarm}
+use Rattle.csq_words.proofs.Facts.{off, due_more, given_hit, given_miss, given_out, bit_true, owed_listed, listed_taken, listed_now, again_disarm}
 use Rattle.csq_words.proofs.Truths.{true_stays, truths_stay}
-use Rattle.csq_words.proofs.Changes.{routine_of, disarm_words, end_words, out_words, stored_else, status_routine}
+use Rattle.csq_words.proofs.Changes.{present_is, disarm_words, end_words, out_words, stored_else, status_routine}
 use Rattle.csq_words.proofs.Entries.{has_entry-marking, has_entry-without}
 use Rattle.csq_words.proofs.Marking.{one_marked, marked_else}
-use Rattle.csq_words.proofs.PassSteps.{routine_here}
 use Rattle.csq_words.proofs.SeatSteps.{reuse_more}
 use Rattle.csq_words.proofs.CallSteps.{Sees, IsMade}
 use Rattle.csq_words.proofs.InsertSteps.{listed_miss, listed_hit}
@@ -77,8 +76,8 @@ module _ (size : Size) (words : List ℕ) (run : List Made) (q : QueueRecord) (r
       listed_i : listed run i ≡ true
       listed_i = sym (entries_are i) ∙ there
 
-      here : routine_of size.first run q.reusing i.irp ≡ i
-      here = routine_here size run i (listed_now size run x.history_is.is_run i listed_i) (listed_undone size run x.history_is.is_run i listed_i) q.reusing x.reuse_is
+      here : present size.first run i.irp ≡ i
+      here = present_is size.first run i (listed_now size run x.history_is.is_run i listed_i)
 
       disarm_run : (n : ℕ) → n ≡ found_by run (Disarm i) → IsRun size (record { pass = r.pass; kind = Disarm i; found = n } ∷ run)
       disarm_run n is = subst (λ v. IsRun size (record { pass = r.pass; kind = Disarm i; found = v } ∷ run)) (sym is)

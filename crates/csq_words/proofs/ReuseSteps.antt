@@ -1,5 +1,5 @@
--- The four steps of a reuse keep the rule.
-use Rattle.csq_words.proofs.Imports.{by_value, IsExtendedBy, and_parts, ltb-true, set-get_or, slice_index, is_some, IsSome, none, Allows, step, keeps, inside_of, IrpId, PassId, NtStatus, Renew, Made, life_of, same_id, same_irp, is, IrpLife, was_armed, bit, routine, flagged, listed, removed, last_life, renewals, present_life, present, Size, IsRun, same_irp-refl, same_irp-eq, grows_by_renew, Reusing, Nothing, Looked, StatusRenewed, RoutineRenewed, Completion, PassRecord, QueueRecord, View, cancel_at, routine_at, status_at, bit_word, life_in, unset_word, status_life_in, status_in, present_in, has_entry, has_irp, begin_next, view_of, queue_of, with_calls, with_step, with_reusing, with_trace, Tick, steps_in, next_life, is_done, inserts, lists, again, in_flight, SaysStatus, HasWords, MayRenew, IsReuse, IsHistoryOf, AreStored, RuleHoldsBy, RuleHolds, after_look, after_renewal, SeatView, status_recorded, SaysStatusOf, Looks, RenewsStatus, RenewsRoutine, RenewsCancel, own_made}
+-- The three steps of a reuse keep the rule.
+use Rattle.csq_words.proofs.Imports.{by_value, IsExtendedBy, and_parts, ltb-true, set-get_or, slice_index, is_some, IsSome, none, Allows, step, keeps, inside_of, IrpId, PassId, NtStatus, Renew, Made, life_of, same_id, same_irp, is, IrpLife, was_armed, bit, routine, flagged, listed, removed, last_life, renewals, present_life, present, Size, IsRun, same_irp-refl, same_irp-eq, grows_by_renew, Reusing, Nothing, Looked, StatusRenewed, Completion, PassRecord, QueueRecord, View, cancel_at, routine_at, status_at, bit_word, life_in, unset_word, status_life_in, status_in, present_in, has_entry, has_irp, begin_next, view_of, queue_of, with_calls, with_step, with_reusing, with_trace, Tick, steps_in, next_life, is_done, inserts, lists, again, in_flight, SaysStatus, HasWords, MayRenew, IsReuse, IsHistoryOf, AreStored, RuleHoldsBy, RuleHolds, after_look, after_renewal, SeatView, status_recorded, SaysStatusOf, Looks, RenewsStatus, RenewsCancel, own_made}
 use Rattle.std.proofs.Common.{◌≡◌, ℕ, ◌+◌, ◌<◌, nat_lt, cond, Bool, true, false, not, ◌&&◌, List, [], ◌∷◌, length, set, Option, Some, None, ⊎_elim, refl, sym, ap, ◌∙◌, subst, arith, length-set}
 use Rattle.irp_core.specs.declared.inside.Inside.TheVariants as inner
 use Rattle.csq_words.specs.declared.views.Event.TheVariants as event
@@ -10,7 +10,7 @@ use Rattle.csq_words.proofs.Decoding.{life_in-put, status_life_in-unset, status_
 use Rattle.csq_words.proofs.Truths.{truths_stay}
 use Rattle.csq_words.proofs.Keeping.{none_is, same_history, at_queue}
 use Rattle.csq_words.proofs.SeatSteps.{locked_step}
-use Rattle.csq_words.proofs.Changes.{present_is, renewed_status_words, renewed_routine_words, renewed_words, stored_else, stored_put, stored_later, status_routine, status_cancel}
+use Rattle.csq_words.proofs.Changes.{present_is, renewed_status_words, renewed_words, stored_else, stored_put, stored_later, status_routine, status_cancel}
 use Rattle.csq_words.proofs.PassSteps.{AllWords}
 use Rattle.csq_words.proofs.CallSteps.{sees, IsMade, KeptAfter, agreed_kept, made_trace, made_record, made_kept}
 use Rattle.csq_words.proofs.Traced.{step_traced}
@@ -87,26 +87,6 @@ module _ (size : Size) (words : List ℕ) (views : List View) (trace : List Tick
         word.1,
       )
 
-  abbrev routine_found : ℕ
-  routine_found = slice_index words (routine_at i.irp)
-
-  -- the routine is renewed
-  routine_kept : q.reusing ≡ StatusRenewed i
-      → KeptAfter size (set words (routine_at i.irp) (bit_word (life_of i + 1) 0)) views trace id seat (with_reusing (RoutineRenewed i) q) r × (routine_found ≡ bit_word (life_of i) 0)
-  routine_kept at =
-      let is_run = k.agrees.history_is.is_run in
-      let may : MayRenew size run i = subst (IsReuse size run) at k.agrees.reuse_is in
-      let known = may.known in
-      let wide = k.agrees.wide in
-      let room : routine_at i.irp < length words = omega arith in
-      let ws : AllWords size words run (StatusRenewed i) = subst (AllWords size words run) at k.agrees.words_are in
-      let unset : routine run i ≡ 0 = ap bit (done_over size run is_run i may.done).1 in (
-        renewal_kept size words (set words (routine_at i.irp) (bit_word (life_of i + 1) 0)) views trace q.trace id q r seat (RoutineRenewed i) had_seen k (length-set words (routine_at i.irp) (bit_word (life_of i + 1) 0))
-            (λ n l. renewed_routine_words size.first words run i may.is_present (next_new size run is_run i may) n room (ws n l))
-            may (λ cs h. stored_else words (routine_at i.irp) (bit_word (life_of i + 1) 0) cs (λ n. status_routine n i.irp) h),
-        (ws i.irp known).routine_is ∙ (ap (λ (j : IrpLife). bit_word (life_of j) (routine run j)) (present_is size.first run i may.is_present) ∙ ap (bit_word (life_of i)) unset),
-      )
-
   abbrev cancel_found : ℕ
   cancel_found = slice_index words (cancel_at i.irp)
 
@@ -120,7 +100,7 @@ module _ (size : Size) (words : List ℕ) (views : List View) (trace : List Tick
       x = record { pass = r.pass; kind = Renew i; found = 0 }
 
   -- the Cancel flag is renewed, and the next life begins
-  cancel_made : q.reusing ≡ RoutineRenewed i → inside_of r.steps ≡ inner.Nothing
+  cancel_made : q.reusing ≡ StatusRenewed i → inside_of r.steps ≡ inner.Nothing
       → IsMade size words (set words (cancel_at i.irp) (bit_word (life_of i + 1) 0)) run q r (Renew i) 0 (event.Reuse i.irp (next_life i).life ∷ []) Nothing × (life_in cancel_found ≡ life_of i)
   cancel_made at outside =
       let x = sees size words views trace id q r seat k in
@@ -129,7 +109,7 @@ module _ (size : Size) (words : List ℕ) (views : List View) (trace : List Tick
       let known = may.known in
       let wide = k.agrees.wide in
       let room : cancel_at i.irp < length words = omega arith in
-      let ws : AllWords size words run (RoutineRenewed i) = subst (AllWords size words run) at k.agrees.words_are in
+      let ws : AllWords size words run (StatusRenewed i) = subst (AllWords size words run) at k.agrees.words_are in
       let grown = grows_by_renew size run is_run r.pass x.from x.to i known (sym x.same ∙ outside) x.free may.is_present (dones_some run i may.done) may.few in
       let over = done_over size run is_run i may.done in
       let here : (j : IrpLife) → j ≡ i → (has_irp (queue_of q).used j ≡ true) × (has_entry (queue_of q).entries j ≡ false) = λ j e. (
@@ -141,7 +121,7 @@ module _ (size : Size) (words : List ℕ) (views : List View) (trace : List Tick
         record {
           wide = length-set words (cancel_at i.irp) (bit_word (life_of i + 1) 0);
           is_run = grown;
-          words_are = λ n l. renewed_words size.first words run i may.is_present (next_new size run is_run i may) n r.pass 0 room (ws n l);
+          words_are = λ n l. renewed_words size.first words run i may.is_present (next_new size run is_run i may) n r.pass 0 (ap bit over.1) room (ws n l);
           reuse_is = tt;
           inert = λ is. refl;
           stored = λ cs h. stored_else words (cancel_at i.irp) (bit_word (life_of i + 1) 0) cs (λ n. status_cancel n i.irp) h;
@@ -252,14 +232,7 @@ module _ (size : Size) (slots id : ℕ) (q : QueueRecord) (r : PassRecord) (held
         let kept = status_kept size s.words s.views trace id q r seat k i at v put in
         (view_of (with_reusing (StatusRenewed i) q) (Some r), keeps, tt, (trace, id, with_reusing (StatusRenewed i) q, Some r, seat, kept.0.0), (refl, kept.1, kept.2, (trace, kept.0.1)))
 
-    renews_routine : q.reusing ≡ StatusRenewed i → Allows (RuleHolds size) slots id (view_of q (Some r), held) (routine_at i.irp) (λ _. bit_word (life_of i + 1) 0) (RenewsRoutine size i (step slots (routine_at i.irp) (bit_word (life_of i + 1) 0) 0 none) (view_of q (Some r), held))
-    renews_routine at s h _ here _ =
-        let (trace, seat, k) = at_queue size s id q (Some r) h here in
-        let run = steps_in trace in
-        let kept = routine_kept size s.words s.views trace id q r seat k i at in
-        (view_of (with_reusing (RoutineRenewed i) q) (Some r), keeps, tt, (trace, id, with_reusing (RoutineRenewed i) q, Some r, seat, kept.0.0), (refl, kept.1, (trace, kept.0.1)))
-
-    renews_cancel : q.reusing ≡ RoutineRenewed i → inside_of r.steps ≡ inner.Nothing → Allows (RuleHolds size) slots id (view_of q (Some r), held) (cancel_at i.irp) (λ _. bit_word (life_of i + 1) 0) (RenewsCancel size i (step slots (cancel_at i.irp) (bit_word (life_of i + 1) 0) 0 none) (view_of q (Some r), held))
+    renews_cancel : q.reusing ≡ StatusRenewed i → inside_of r.steps ≡ inner.Nothing → Allows (RuleHolds size) slots id (view_of q (Some r), held) (cancel_at i.irp) (λ _. bit_word (life_of i + 1) 0) (RenewsCancel size i (step slots (cancel_at i.irp) (bit_word (life_of i + 1) 0) 0 none) (view_of q (Some r), held))
     renews_cancel at outside s h _ here _ =
         let (trace, seat, k) = at_queue size s id q (Some r) h here in
         let run = steps_in trace in
@@ -280,10 +253,7 @@ module _ (size : Size) (slots id : ℕ) (m : SeatView) (q : QueueRecord) (r : Pa
   pub renews_status_as : (place v : ℕ) → place ≡ status_at i.irp → q.reusing ≡ Looked i → (life_of i < last_life → v ≡ unset_word (life_of i + 1)) → Allows (RuleHolds size) slots id m place (λ _. v) (RenewsStatus other j (step slots place v 0 none) m)
   renews_status_as place v lies at put = subst (λ (z : View × IrpLife × Size × ℕ). Allows (RuleHolds size) slots id (z.0, m.1) z.3 (λ _. v) (RenewsStatus z.2 z.1 (step slots z.3 v 0 none) (z.0, m.1))) (λ k. (sym is k, sym named k, sym sized k, sym lies k)) (renews_status size slots id q r m.1 i v at put)
 
-  pub renews_routine_as : (place v : ℕ) → place ≡ routine_at i.irp → v ≡ bit_word (life_of i + 1) 0 → q.reusing ≡ StatusRenewed i → Allows (RuleHolds size) slots id m place (λ _. v) (RenewsRoutine other j (step slots place v 0 none) m)
-  renews_routine_as place v lies put at = subst (λ (z : View × IrpLife × Size × ℕ × ℕ). Allows (RuleHolds size) slots id (z.0, m.1) z.4 (λ _. z.3) (RenewsRoutine z.2 z.1 (step slots z.4 z.3 0 none) (z.0, m.1))) (λ k. (sym is k, sym named k, sym sized k, sym put k, sym lies k)) (renews_routine size slots id q r m.1 i at)
-
-  pub renews_cancel_as : (place v : ℕ) → place ≡ cancel_at i.irp → v ≡ bit_word (life_of i + 1) 0 → q.reusing ≡ RoutineRenewed i → inside_of r.steps ≡ inner.Nothing → Allows (RuleHolds size) slots id m place (λ _. v) (RenewsCancel other j (step slots place v 0 none) m)
+  pub renews_cancel_as : (place v : ℕ) → place ≡ cancel_at i.irp → v ≡ bit_word (life_of i + 1) 0 → q.reusing ≡ StatusRenewed i → inside_of r.steps ≡ inner.Nothing → Allows (RuleHolds size) slots id m place (λ _. v) (RenewsCancel other j (step slots place v 0 none) m)
   renews_cancel_as place v lies put at outside = subst (λ (z : View × IrpLife × Size × ℕ × ℕ). Allows (RuleHolds size) slots id (z.0, m.1) z.4 (λ _. z.3) (RenewsCancel z.2 z.1 (step slots z.4 z.3 0 none) (z.0, m.1))) (λ k. (sym is k, sym named k, sym sized k, sym put k, sym lies k)) (renews_cancel size slots id q r m.1 i at outside)
 
 pub looks_as : (size : Size) (slots id : ℕ) (m : SeatView) (q : QueueRecord) (r : PassRecord) → m.0 ≡ view_of q (Some r) → (n : IrpId) (j : IrpLife) → j.irp ≡ n → n.0 < size.irps → (other : Size) → other ≡ size → (place : ℕ) → place ≡ status_at n → q.reusing ≡ Nothing

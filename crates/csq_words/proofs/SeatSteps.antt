@@ -1,6 +1,6 @@
 -- The two general lemmas: a step of a pass's own seat, and a step of the queue's seat while it is joined with a pass, keep the rule.
 use Rattle.std.proofs.Common.{◌≡◌, ◌≢◌, ℕ, ◌<◌, ◌≤◌, false, cond, not, ◌&&◌, List, [], ◌∷◌, length, set, Option, Some, refl, sym, ap, ◌∙◌, subst, ⊎_elim, arith, true, None}
-use Rattle.csq_words.proofs.Imports.{or_right, some, get_elem?, set_here, set_else, PassId, Made, is, own, IrpLife, Inside, inside, inside_after, has_lock, listed, Size, IsRun, PassRecord, QueueRecord, View, calls_of, IsExtendedBy, view_of, pass_view, was_armed, present_life, life_grows, IrpId, Done, Reusing, Nothing, Looked, StatusRenewed, RoutineRenewed, inserts, lists, passes_given, HasWords, is_done, in_flight, AreTrueOf, IsHistoryOf, MayRenew, IsReuse, AreStored, HaveBegun, IsRecord, IsOut, IsNobody, HasBack, BackOnce, Fits, HasSeen, HaveSeen, HistoryEntry, Tick, Makes, IsTraceOf, steps_in, SeatHasRecord, RuleHoldsBy, again, same_pass-not, own-other, some-injective}
+use Rattle.csq_words.proofs.Imports.{or_right, some, get_elem?, set_here, set_else, PassId, Made, is, own, IrpLife, Inside, inside, inside_after, has_lock, listed, Size, IsRun, PassRecord, QueueRecord, View, calls_of, IsExtendedBy, view_of, pass_view, was_armed, present_life, life_grows, IrpId, Done, Reusing, Nothing, Looked, StatusRenewed, inserts, lists, passes_given, HasWords, is_done, in_flight, AreTrueOf, IsHistoryOf, MayRenew, IsReuse, AreStored, HaveBegun, IsRecord, IsOut, IsNobody, HasBack, BackOnce, Fits, HasSeen, HaveSeen, HistoryEntry, Tick, Makes, IsTraceOf, steps_in, SeatHasRecord, RuleHoldsBy, again, same_pass-not, own-other, some-injective}
 use Rattle.irp_core.specs.declared.inside.Inside.TheVariants.{Rearmed, FlagSeenAgain}
 use Rattle.irp_core.specs.Lock.{needs_lock}
 use Rattle.csq_words.proofs.Facts.{off, extended_on}
@@ -45,7 +45,6 @@ pub reuse_more : (size : Size) (m : Made) (run : List Made) → ((n : IrpId) →
 reuse_more size m run same Nothing h = tt
 reuse_more size m run same (Looked i) h = renew_more size m run same i h
 reuse_more size m run same (StatusRenewed i) h = renew_more size m run same i h
-reuse_more size m run same (RoutineRenewed i) h = renew_more size m run same i h
 
 -- whoever puts an IRP back has the lock
 pub again_locks : (s : Inside) (i : IrpLife) → again s i ≡ true → has_lock s ≡ true

@@ -2,7 +2,7 @@
 use Rattle.std.proofs.Common.{◌≡◌, ℕ, [], Option, Some, None, refl, sym, ap, ◌∙◌, subst}
 use Rattle.std.specs.Option.{option_map}
 use Rattle.atomic_table.specs.Seated.{TableId}
-use Rattle.csq_words.proofs.Imports.{Kind, Test, Call, View, PassRecord, QueueRecord, bit_in, view_of, pass_view, receipt_view, prefix_view, queue_in, pass_in, queue_of, with_trace, with_reusing, IrpId, Size, IrpLife, StatusRenewed, RoutineRenewed, present_in, after_step, after_look, after_renewal, any_step, SeatView, MakesStep, IsFound, FindsUnmarked, Looks, RenewsStatus, RenewsRoutine, RenewsCancel, HasObserved, WordSeat, QueueSeatState, PassSeatState, queue_seat_of, HasQueue, IsQueueSeat, pass_seat_of, IsPassSeat, receipt_seat_of, IsReceipt, SeenState, seen_seat_of, IsSeenSeat, pass_record, pass_at, IsHere, joined_record, IsJoined, with_view}
+use Rattle.csq_words.proofs.Imports.{Kind, Test, Call, View, PassRecord, QueueRecord, bit_in, view_of, pass_view, receipt_view, prefix_view, queue_in, pass_in, queue_of, with_trace, with_reusing, IrpId, Size, IrpLife, StatusRenewed, present_in, after_step, after_look, after_renewal, any_step, SeatView, MakesStep, IsFound, FindsUnmarked, Looks, RenewsStatus, RenewsCancel, HasObserved, WordSeat, QueueSeatState, PassSeatState, queue_seat_of, HasQueue, IsQueueSeat, pass_seat_of, IsPassSeat, receipt_seat_of, IsReceipt, SeenState, seen_seat_of, IsSeenSeat, pass_record, pass_at, IsHere, joined_record, IsJoined, with_view}
 
 -- a pass's seat that is here
 pub here : {o : Option WordSeat} {s : WordSeat} {p : Option PassSeatState} {t : TableId} → o ≡ Some s → option_map pass_seat_of o ≡ p → IsPassSeat o → IsHere t p
@@ -95,9 +95,6 @@ module _ (s s' : WordSeat) {q : QueueSeatState} (view : queue_seat_of s ≡ q) (
   module _ {size : Size} {i j : IrpLife} (same : j ≡ i) where
     pub status_renewed : RenewsStatus size j any_step s.me w s'.me → IsQueueSeat s' × (queue_seat_of s' ≡ record q { queue = with_reusing (StatusRenewed i) q.queue }) × RenewsStatus size i any_step joined_at w s'.me
     status_renewed renews = let x = subst (λ (z : IrpLife × SeatView). RenewsStatus size z.0 any_step z.1 w s'.me) (λ k. (same k, was k)) renews in let h = after _ x.0 in (h.0, h.1, x)
-
-    pub routine_renewed : RenewsRoutine size j any_step s.me w s'.me → IsQueueSeat s' × (queue_seat_of s' ≡ record q { queue = with_reusing (RoutineRenewed i) q.queue }) × RenewsRoutine size i any_step joined_at w s'.me
-    routine_renewed renews = let x = subst (λ (z : IrpLife × SeatView). RenewsRoutine size z.0 any_step z.1 w s'.me) (λ k. (same k, was k)) renews in let h = after _ x.0 in (h.0, h.1, x)
 
     pub cancel_renewed : RenewsCancel size j any_step s.me w s'.me → IsQueueSeat s' × (queue_seat_of s' ≡ with_view (after_renewal i (with_trace (queue_in s'.me.0).trace q.queue) (joined_record q)) q) × RenewsCancel size i any_step joined_at w s'.me
     cancel_renewed renews =

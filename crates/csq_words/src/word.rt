@@ -10,7 +10,8 @@
 //! | `Status`  | `3 * irp + 2` | bits 33 to 63 | bit 32: it is set; bits 0 to 31: it |
 //!
 //! A life is below 2^30, so that each word has room for every life. If a status isn't set, bits
-//! 0 to 31 are 0. The words of one IRP stand for one life, but while a reuse renews them.
+//! 0 to 31 are 0. Flag and status stand for one life, but while a reuse renews them. The routine's
+//! word stands for the last life in which it was set.
 ghost use Rattle.std.specs.Prelude.{◌≡◌, ◌+◌, ◌≤◌, ◌<◌, true, false, IfOk};
 ghost use Rattle.irp_core.specs.Lives.{last_life};
 ghost use Rattle.irp_core.specs.Words.{bit};
@@ -61,7 +62,7 @@ pub fn bit_word(life: Life, set: bool) -> u64
     2 * u64::from(life.0) + u64::from(set)
 }
 
-/// The word of a Cancel flag or of a routine that isn't set in the life after this one.
+/// The word of a Cancel flag that isn't set in the life after this one.
 pub(crate) fn next_clear(life: Life) -> u64
     ensures { result ≡ bit_word (life.0 + 1) 0 }
 {

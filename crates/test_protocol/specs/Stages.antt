@@ -13,7 +13,7 @@ use Rattle.csq_words.specs.declared.views.Reusing.{Reusing}
 use Rattle.csq_words.specs.declared.views.Reusing.TheVariants as reusing
 use Rattle.test_protocol.specs.Listed.{IsHome, IsInserted, IsIrpZero, only_entry}
 use Rattle.test_protocol.specs.declared.states.Stage.{Stage}
-use Rattle.test_protocol.specs.declared.states.Stage.TheVariants.{Home, Armed, FlagSeen, Listed, Removed, Rearmed, FlagSeenAgain, Taken, Looked, StatusRenewed, RoutineRenewed, Ended}
+use Rattle.test_protocol.specs.declared.states.Stage.TheVariants.{Home, Armed, FlagSeen, Listed, Removed, Rearmed, FlagSeenAgain, Taken, Looked, StatusRenewed, Ended}
 use Rattle.test_protocol.specs.declared.states.Doing.{Doing}
 use Rattle.test_protocol.specs.declared.states.Doing.TheVariants.{Nothing, Cancelling, Owing, Holding, HoldingRemoved}
 use Rattle.test_protocol.specs.declared.states.Hand.{Hand}
@@ -43,7 +43,6 @@ HasStage FlagSeenAgain i q = IsUnderLock (inner.FlagSeenAgain i) q × IsInserted
 HasStage Taken i q = (q.joined ≡ None) × IsIrpZero i q.queue × (q.queue.reusing ≡ reusing.Nothing)
 HasStage Looked i q = IsReusing (reusing.Looked i) i q
 HasStage StatusRenewed i q = IsReusing (reusing.StatusRenewed i) i q
-HasStage RoutineRenewed i q = IsReusing (reusing.RoutineRenewed i) i q
 HasStage Ended i q = Unit {0}
 
 -- a pass outside of every call does this

@@ -26,8 +26,6 @@ pub enum Stage {
     Looked,
     /// It renewed the status.
     StatusRenewed,
-    /// It renewed the routine, too.
-    RoutineRenewed,
     /// It is inserted no more.
     Ended,
 }

@@ -24,7 +24,6 @@ pub(super) enum Action {
     Look(NtStatus),
     // It renews the status, which is this one.
     RenewStatus(NtStatus),
-    RenewRoutine,
     // It renews the Cancel flag, which is set or clear before. The next life begins.
     RenewCancel(bool),
     // A whole reuse after a success, whose Cancel flag is set or clear before.
@@ -93,7 +92,6 @@ impl Case {
             Action::Insert => self.insert(rt),
             Action::Look(due) => self.look(rt, due),
             Action::RenewStatus(due) => self.renew_status(rt, due),
-            Action::RenewRoutine => self.renew_routine(rt),
             Action::RenewCancel(set) => self.renew_cancel(rt, set),
             Action::Reuse(set) => self.reuse(rt, set),
             Action::LookAlone(due) => self.look_alone(rt, due),

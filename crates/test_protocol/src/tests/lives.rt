@@ -35,11 +35,6 @@ const CANCELS_COME_BETWEEN_THE_RENEWALS: &[Action] = &[
     Action::Flag,
     Action::Take(10),
     Action::FlagStale(SIXTH, true),
-    Action::RenewRoutine,
-    // Now the routine is of the new one.
-    Action::Flag,
-    Action::Take(12),
-    Action::FlagStale(SIXTH, true),
     Action::RenewCancel(true),
     // Now the flag is of the next life too, and clear.
     Action::FlagStale(FIFTH, false),
@@ -65,7 +60,6 @@ const A_STALE_FLAG_CHANGES_NO_WORD: &[Action] = &[
     Action::FlagStale(FIRST, false),
     Action::RenewStatus(SUCCESS),
     Action::FlagStale(FIRST, false),
-    Action::RenewRoutine,
     Action::FlagStale(FIRST, false),
     Action::RenewCancel(false),
     Action::FlagStale(FIFTH, false),
@@ -133,7 +127,8 @@ const A_LATE_TAKE_COMES_BEFORE_THE_INSERT: &[Action] = &[
     Action::Flag,
     Action::Complete(SUCCESS),
     Action::Reuse(true),
-    Action::Take(2),
+    // The routine's word is still of the old life: no reuse renews it.
+    Action::Take(0),
     Action::Insert,
     Action::FindUnflagged(By::Canceller, SECOND, None),
     Action::FindRest,
@@ -150,7 +145,6 @@ const EACH_PASS_READS_THE_STATUS_OF_A_COMPLETION: &[Action] = &[
     Action::Look(DEVICE_ERROR),
     Action::RenewStatus(DEVICE_ERROR),
     Action::Find(By::Canceller, (FIRST, false), (SECOND, None)),
-    Action::RenewRoutine,
     Action::RenewCancel(false),
     Action::FindUnflagged(By::Remover, SECOND, None),
 ];

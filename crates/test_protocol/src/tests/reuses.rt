@@ -13,7 +13,7 @@ ghost use Rattle.test_protocol.specs.Listed.{IsHome, IsInserted};
 use super::ZERO;
 use super::fixture::{Case, FREE, compare};
 use crate::states::{Doing, Hand, Stage};
-use csq_words::{Call, PassSeat, QueueSeat, Words, bit_word, flag_read, status_read};
+use csq_words::{Call, PassSeat, QueueSeat, Words, flag_read, status_read};
 use irp_core::{IrpLife, Kind, Life, Machine, NtStatus, PassId, Step, StepRefused};
 use std::process::Abort;
 
@@ -33,7 +33,7 @@ fn renew_cancel(
     requires joined { IsJoined queue.old }
     requires inserted { IsInserted name [] (with_reusing Reusing.Nothing queue.old.queue) }
     requires few { life_of name < last_life }
-    requires renewed { queue.old.queue.reusing ≡ Reusing.RoutineRenewed name }
+    requires renewed { queue.old.queue.reusing ≡ Reusing.StatusRenewed name }
     requires outside { inside_of (joined_record queue.old).steps ≡ Nothing }
     ensures words { queue.new.table ≡ words.now.table }
     ensures alone { queue.new.joined ≡ None }
@@ -107,22 +107,10 @@ impl Case {
         self.stage = Stage::StatusRenewed;
     }
 
-    /// It renews the routine.
-    pub(super) fn renew_routine(&mut self, rt: &impl Abort) {
-        let Stage::StatusRenewed = self.stage else {
-            panic!(rt; "the status wasn't renewed");
-        };
-        let life = self.life;
-        let name = IrpLife { irp: ZERO, life };
-        let found = self.queue.renew_routine(&self.words, REUSE, name);
-        assert!(rt; found == bit_word(life, false));
-        self.stage = Stage::RoutineRenewed;
-    }
-
     /// It renews the Cancel flag, which it finds so. The next life begins.
     pub(super) fn renew_cancel(&mut self, rt: &impl Abort, set: bool) {
-        let Stage::RoutineRenewed = self.stage else {
-            panic!(rt; "the routine wasn't renewed");
+        let Stage::StatusRenewed = self.stage else {
+            panic!(rt; "the status wasn't renewed");
         };
         let life = self.life;
         let name = IrpLife { irp: ZERO, life };
@@ -144,7 +132,6 @@ impl Case {
     pub(super) fn reuse(&mut self, rt: &impl Abort, set: bool) {
         self.look(rt, NtStatus::SUCCESS);
         self.renew_status(rt, NtStatus::SUCCESS);
-        self.renew_routine(rt);
         self.renew_cancel(rt, set);
     }
 

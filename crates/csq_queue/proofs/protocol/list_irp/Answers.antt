@@ -3,7 +3,7 @@ use Rattle.csq_queue.proofs.Imports.{IrpLife, Limits, QueueSeatState, Arm, Disar
 use Rattle.csq_words.specs.declared.calls.Call.TheVariants.{Insert as InsertCall}
 use Rattle.csq_queue.specs.declared.tokens.InsertAnswer.TheVariants as answer
 use Rattle.csq_queue.proofs.Presence.{present_is}
-use Rattle.csq_queue.proofs.Inserting.{it, armed, disarmed, accepted_irp, insert_pending, insert_missed, insert_cancelled, pending_makes, missed_makes, cancelled_makes, cancelled_new, was_clear}
+use Rattle.csq_queue.proofs.Inserting.{it, armed, disarmed, accepted_irp, insert_pending, insert_missed, insert_cancelled, pending_makes, missed_makes, cancelled_makes, cancelled_new}
 use Rattle.csq_queue.proofs.protocol.list_irp.Given.{Over}
 use Rattle.csq_queue.proofs.protocol.list_irp.Goals as goal
 use Rattle.csq_queue.proofs.protocol.list_irp.Goals.{After-test, After-disarm}
@@ -29,7 +29,7 @@ module _ (g : Over) (c : After-test g) where
   to_armed = c.arm.ensures.step ∙ (λ k. with_view (after_step (InsertCall c.args.irp c.args.file c.args.place) (Arm (named k)) (bit_in c.arm.result) (with_trace c.arm.new.self.queue.trace old.queue) (joined_record old)) old)
 
   routine_clear : bit_in c.arm.result ≡ 0
-  routine_clear = was_clear c.present-present.result.life.0 c.arm.result c.arm.ensures.found
+  routine_clear = c.arm.ensures.found
 
 pub is_set-requires-2 : goal.is_set-requires-2
 is_set-requires-2 g c = search rules

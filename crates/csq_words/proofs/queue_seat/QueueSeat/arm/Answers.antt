@@ -20,7 +20,11 @@ invariant_of-self g c =
 
 pub returns-clause-found : goal.returns-clause-found
 returns-clause-found g c =
-    made_found c.args.call refl c.self.inside.seat c.swap.new.seat c.swap.result c.self.view_is c.self.invariant c.requires.joined c.swap.ensures.table c.swap.ensures.agreed
+    (made_found c.args.call refl c.self.inside.seat c.swap.new.seat c.swap.result c.self.view_is c.self.invariant c.requires.joined c.swap.ensures.table c.swap.ensures.agreed).0
+
+pub returns-clause-life : goal.returns-clause-life
+returns-clause-life g c =
+    (made_found c.args.call refl c.self.inside.seat c.swap.new.seat c.swap.result c.self.view_is c.self.invariant c.requires.joined c.swap.ensures.table c.swap.ensures.agreed).1
 
 pub returns-clause-step : goal.returns-clause-step
 returns-clause-step g c =
