@@ -148,10 +148,10 @@ fn link_plain() -> Result<(), String> {
     }
     let out = PathBuf::from(env::var_os("OUT_DIR").ok_or("OUT_DIR isn't set")?);
     println!("cargo:rerun-if-changed={}", sources.display());
-    println!("cargo:rerun-if-changed={}", headers.join("csq.h").display());
+    println!("cargo:rerun-if-changed={}", headers.display());
     let archive = out.join("libcsq_plain.a");
     let mut objects = Vec::new();
-    for name in ["plain_queue", "plain_judges", "plain_list"] {
+    for name in ["plain_queue", "plain_judges", "plain_list", "plain_ledger"] {
         let object = out.join(name).with_extension("o");
         let source = sources.join(name).with_extension("c");
         let mut compiler = program("CC", "cc");

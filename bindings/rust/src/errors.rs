@@ -321,16 +321,16 @@ impl<Q: fmt::Debug> Error for PassesOut<Q> {}
 #[derive(Clone, Copy, Debug, PartialEq, Eq, Hash)]
 #[non_exhaustive]
 pub enum SubmitError {
-    /// The queue was shut down.
-    ShutDown,
-    /// No IRP is free, and some have a request under way: try again after a completion.
-    NoIrp,
-    /// Each IRP has had its last life, so no request can be submitted any more.
-    LivesSpent,
     /// The file object's number isn't below the queue's number of file objects.
     UnknownFile,
+    /// The queue was shut down.
+    ShutDown,
     /// The file object was closed. A driver returns `STATUS_FILE_CLOSED`.
     FileClosed,
+    /// Each IRP has had its last life, so no request can be submitted any more.
+    LivesSpent,
+    /// No IRP is free, and some have a request under way: try again after a completion.
+    NoIrp,
     /// As many requests are listed for the file object as its own limit allows. A driver returns
     /// `STATUS_INSUFFICIENT_RESOURCES`.
     FileFull,
@@ -350,17 +350,12 @@ refusal!(SubmitError {
 });
 
 impl SubmitError {
-    /// Why an insert of a free IRP is refused.
-    pub(crate) fn of(refusal: InsertError) -> SubmitError {
-        match refusal {
-            InsertError::UnknownFile => SubmitError::UnknownFile,
-            InsertError::FileClosed => SubmitError::FileClosed,
-            InsertError::FileFull => SubmitError::FileFull,
-            InsertError::Full => SubmitError::Full,
-            InsertError::UnknownIrp | InsertError::NotHome => {
-                unreachable!("a free IRP: {refusal}")
-            }
-        }
+    /// Whether a later submit may be accepted.
+    pub(crate) fn is_want_of_room(self) -> bool {
+        matches!(
+            self,
+            SubmitError::NoIrp | SubmitError::FileFull | SubmitError::Full
+        )
     }
 }
 
@@ -470,6 +465,16 @@ refusal!(RecvTimeoutError {
     Timeout => "no request came in time",
     ShutDown => "the queue was shut down or dropped",
 });
+
+/// What named a request that was taken, so that nobody waits for it; the first, if several did.
+#[derive(Clone, Copy, Debug, PartialEq, Eq, Hash)]
+#[non_exhaustive]
+pub enum CancelledBy {
+    /// A cancel by its name ([`OwnedPass::cancel`](crate::OwnedPass::cancel)).
+    Caller,
+    /// Its deadline is over ([`OwnedPass::submit_until`](crate::OwnedPass::submit_until)).
+    Deadline,
+}
 
 /// Why a cancel of a request got no value.
 #[derive(Clone, Copy, Debug, PartialEq, Eq, Hash)]

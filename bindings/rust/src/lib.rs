@@ -104,8 +104,8 @@
 //!
 //! # Features
 //!
-//! `plain`: as above. `async`: `OwnedPass::recv_async` and `OwnedRequest::cancelled`, futures for
-//! any executor.
+//! `plain`: as above. `async`: futures for any executor (`OwnedPass::recv_async`,
+//! `OwnedPass::submit_async`, `OwnedPass::drain_async`, `OwnedRequest::cancelled`).
 #![deny(
     missing_docs,
     unsafe_op_in_unsafe_fn,
@@ -114,6 +114,7 @@
 )]
 
 mod errors;
+mod ledger;
 mod lock;
 mod pass;
 mod queue;
@@ -123,14 +124,14 @@ mod token;
 mod words;
 
 pub use errors::{
-    CancelError, Holding, InsertError, Missed, NewError, NotListed, NotPutBack, PassError,
-    PassesOut, PutBackError, RecvError, RecvTimeoutError, Refused, ReuseError, SubmitError,
-    TryRecvError, UnknownFile, UnknownIrp,
+    CancelError, CancelledBy, Holding, InsertError, Missed, NewError, NotListed, NotPutBack,
+    PassError, PassesOut, PutBackError, RecvError, RecvTimeoutError, Refused, ReuseError,
+    SubmitError, TryRecvError, UnknownFile, UnknownIrp,
 };
 pub use pass::Pass;
 pub use queue::{Closed, Listed, Queue};
 #[cfg(feature = "async")]
-pub use requests::{CancelledFuture, RecvFuture};
+pub use requests::{CancelledFuture, DrainFuture, RecvFuture, SubmitFuture};
 pub use requests::{OwnedPass, OwnedRequest, PutBack, Request, RequestId, RequestPass, Requests};
 pub use token::{Cancelled, Claim, Inserted, Removed};
 pub use words::{FinalStatus, Irp, Left, List, Peek, Place, Size, LAST_LIFE};

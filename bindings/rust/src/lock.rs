@@ -1,19 +1,7 @@
-//! What the lock of a queue guards, and how a thread waits for it.
+//! How a thread waits for a queue's lock.
 
-use crate::raw::RawQueue;
-use crate::requests::{Free, Waiting};
 use std::hint::spin_loop;
 use std::sync::{Mutex, MutexGuard, PoisonError, TryLockError};
-
-/// The queue's handle, and what a queue of requests has beside it, so that each of its calls takes
-/// one lock.
-pub(crate) struct Locked {
-    pub(crate) queue: RawQueue,
-    /// None in a queue without values.
-    pub(crate) free: Free,
-    /// Nobody waits at a queue without values.
-    pub(crate) waiting: Waiting,
-}
 
 /// How often a thread tries the lock again before it sleeps, and for how many spin-loop hints it
 /// pauses before the first and, at most, before the last of these tries: as the proved queue waits
@@ -25,7 +13,7 @@ const LONGEST_PAUSE: u32 = 1024;
 /// Locks, whether or not a thread has panicked with the lock: no code of the caller runs while it
 /// is locked, so what it guards is whole.
 #[inline]
-pub(crate) fn lock(mutex: &Mutex<Locked>) -> MutexGuard<'_, Locked> {
+pub(crate) fn lock<L>(mutex: &Mutex<L>) -> MutexGuard<'_, L> {
     match mutex.try_lock() {
         Ok(locked) => locked,
         Err(TryLockError::Poisoned(poisoned)) => poisoned.into_inner(),
@@ -34,7 +22,7 @@ pub(crate) fn lock(mutex: &Mutex<Locked>) -> MutexGuard<'_, Locked> {
 }
 
 #[cold]
-fn wait_for(mutex: &Mutex<Locked>) -> MutexGuard<'_, Locked> {
+fn wait_for<L>(mutex: &Mutex<L>) -> MutexGuard<'_, L> {
     let mut pause = FIRST_PAUSE;
     for _ in 0..TRIES {
         (0..pause).for_each(|_| spin_loop());

@@ -2,19 +2,16 @@
 
 mod calls;
 
-pub(crate) use calls::Listing;
-
 use crate::errors::{
     CancelError, Holding, InsertError, PassError, ReuseError, UnknownFile, UnknownIrp,
 };
-use crate::lock::Locked;
-use crate::queue::Shared;
+use crate::queue::{file_of, Shared};
 use crate::raw::{self, RawIrp, RawPass, RawQueue};
-use crate::token::{Cancelled, Claim, Inserted, Removed};
+use crate::token::{Claim, Inserted, Removed};
 use crate::words::{FinalStatus, Irp, Peek, Place};
 use std::cell::UnsafeCell;
 use std::fmt;
-use std::sync::{Arc, MutexGuard};
+use std::sync::Arc;
 
 /// A pass of a queue, through which one thread at a time makes its calls. It has a share of its
 /// queue, so it can be used with no other.
@@ -42,7 +39,7 @@ impl Pass {
     pub(crate) fn of(shared: &Arc<Shared>) -> Result<Pass, PassError> {
         let mut handle = RawPass::EMPTY;
         // SAFETY: the queue is locked, and the pass's handle is empty.
-        let code = unsafe { raw::csq_take_pass(&mut shared.lock().queue, &mut handle) };
+        let code = unsafe { raw::csq_take_pass(&mut *shared.lock(), &mut handle) };
         match code {
             raw::OK => Ok(Pass {
                 shared: Arc::clone(shared),
@@ -54,16 +51,9 @@ impl Pass {
         }
     }
 
-    /// What the queue's lock guards. The calls below whose names end with `_locked` are made with
-    /// it.
-    #[inline]
-    pub(crate) fn lock(&self) -> MutexGuard<'_, Locked> {
-        self.shared.lock()
-    }
-
     // Makes a call under the lock.
     fn locked(&self, call: impl FnOnce(*mut RawQueue, *mut RawPass) -> u32) -> u32 {
-        call(&mut self.lock().queue, self.handle.get())
+        call(&mut *self.shared.lock(), self.handle.get())
     }
 
     /// Gives the pass back. Refused only if a token was forgotten; then the pass comes back.
@@ -128,16 +118,7 @@ impl Pass {
     /// # Ok::<(), Box<dyn std::error::Error>>(())
     /// ```
     pub fn insert(&self, irp: u32, file: u32, place: Place) -> Result<Inserted<'_>, InsertError> {
-        let listing = self.insert_locked(&mut self.lock(), irp, file, place)?;
-        Ok(self.inserted(listing))
-    }
-
-    // With the token of what isn't listed.
-    fn inserted(&self, listing: Listing) -> Inserted<'_> {
-        match listing {
-            Listing::Pending(irp) => Inserted::Pending(irp),
-            Listing::Cancelled(irp) => Inserted::Cancelled(Cancelled { pass: self, irp }),
-        }
+        self.list(irp, file, place)
     }
 
     /// Removes the first listed match that no canceller has (`IoCsqRemoveNextIrp`). Takes the lock.
@@ -156,8 +137,16 @@ impl Pass {
     #[must_use = "a removed IRP has to be completed, and is completed as cancelled if it is \
                   dropped"]
     pub fn remove_next(&self, peek: Peek) -> Option<Removed<'_>> {
-        let irp = self.remove_next_locked(&mut self.lock(), peek)?;
-        Some(Removed { pass: self, irp })
+        // In C this number stands for any; here it is an unknown file object.
+        if peek == Peek::File(raw::ANY) {
+            return None;
+        }
+        let (file, mut irp) = (file_of(peek), RawIrp::default());
+        // SAFETY: the queue is locked, and this thread alone has the pass.
+        let code =
+            self.locked(|queue, pass| unsafe { raw::csq_remove_next(queue, pass, file, &mut irp) });
+        let irp = Irp::of(irp);
+        (code == raw::OK).then(|| Removed { pass: self, irp })
     }
 
     /// Removes the IRP of a context (`IoCsqRemoveIrp`). None if it isn't listed in that life, or a
@@ -287,14 +276,9 @@ impl Pass {
     /// ```
     pub fn drain_with(&self, peek: Peek, before: impl FnMut(Irp)) -> Result<u32, UnknownFile> {
         if let Peek::File(file) = peek {
-            self.file_len(file)?;
+            self.shared.file_len(file)?;
         }
         Ok(self.complete_listed(peek, before))
-    }
-
-    // How many IRPs are listed for a file object.
-    pub(crate) fn file_len(&self, file: u32) -> Result<u32, UnknownFile> {
-        self.shared.file_len(file)
     }
 
     // Completes what is listed as cancelled, and returns how many.
@@ -328,7 +312,18 @@ impl Pass {
     /// # Ok::<(), Box<dyn std::error::Error>>(())
     /// ```
     pub fn reuse(&self, irp: Irp) -> Result<Irp, ReuseError> {
-        self.reuse_locked(&mut self.lock(), irp)
+        let mut life = 0;
+        // SAFETY: the queue is locked, and this thread alone has the pass.
+        let code =
+            self.locked(|queue, pass| unsafe { raw::csq_reuse(queue, pass, irp.raw(), &mut life) });
+        match code {
+            raw::OK => Ok(Irp { life, ..irp }),
+            raw::UNKNOWN_IRP => Err(ReuseError::UnknownIrp),
+            raw::STALE => Err(ReuseError::Stale),
+            raw::NOT_COMPLETED => Err(ReuseError::NotCompleted),
+            raw::LIVES_SPENT => Err(ReuseError::LivesSpent),
+            code => unreachable!("csq_reuse returned {code}"),
+        }
     }
 
     /// Sets the Cancel flag of an IRP in the life named, and takes its cancel routine (the first

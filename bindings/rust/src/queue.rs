@@ -1,10 +1,9 @@
 //! A queue, open and closed.
 
 use crate::errors::{NewError, NotListed, PassError, PassesOut, UnknownFile};
-use crate::lock::{self, Locked};
+use crate::lock;
 use crate::pass::Pass;
 use crate::raw::{self, RawIrp, RawLeft, RawQueue};
-use crate::requests::{Free, Waiting};
 use crate::words::{FinalStatus, Irp, Left, Peek, Size};
 use std::fmt;
 use std::sync::{Arc, Mutex, MutexGuard, PoisonError};
@@ -14,22 +13,22 @@ unsafe impl Send for RawQueue {}
 
 /// A queue's handle under its lock. It is freed with the last pass, or with the queue.
 pub(crate) struct Shared {
-    locked: Mutex<Locked>,
+    handle: Mutex<RawQueue>,
     pub(crate) irps: u32,
 }
 
 impl Shared {
-    /// What the lock guards, for one call. No code of the caller runs while it is locked.
+    /// The handle, for one call. No code of the caller runs while it is locked.
     #[inline]
-    pub(crate) fn lock(&self) -> MutexGuard<'_, Locked> {
-        lock::lock(&self.locked)
+    pub(crate) fn lock(&self) -> MutexGuard<'_, RawQueue> {
+        lock::lock(&self.handle)
     }
 
     /// How many IRPs are listed for a file object.
     pub(crate) fn file_len(&self, file: u32) -> Result<u32, UnknownFile> {
         let mut len = 0;
         // SAFETY: the handle is locked.
-        match unsafe { raw::csq_file_len(&self.lock().queue, file, &mut len) } {
+        match unsafe { raw::csq_file_len(&*self.lock(), file, &mut len) } {
             raw::OK => Ok(len),
             raw::UNKNOWN_FILE => Err(UnknownFile),
             code => unreachable!("csq_file_len returned {code}"),
@@ -39,10 +38,10 @@ impl Shared {
 
 impl Drop for Shared {
     fn drop(&mut self) {
-        let locked = self.locked.get_mut();
-        let locked = locked.unwrap_or_else(PoisonError::into_inner);
+        let handle = self.handle.get_mut();
+        let handle = handle.unwrap_or_else(PoisonError::into_inner);
         // SAFETY: nobody else has the handle, since each pass has a share of it.
-        let code = unsafe { raw::csq_free_queue(&mut locked.queue) };
+        let code = unsafe { raw::csq_free_queue(handle) };
         debug_assert_eq!(code, raw::OK);
     }
 }
@@ -110,26 +109,16 @@ impl Queue {
             raw::OK => {
                 // As `csq_new` in the header does, by which a pass of another queue is known.
                 handle.number = handle.at as u64;
-                let locked = Mutex::new(Locked {
-                    queue: handle,
-                    free: Free::default(),
-                    waiting: Waiting::default(),
-                });
+                let handle = Mutex::new(handle);
                 let irps = size.irps;
                 Ok(Queue {
-                    shared: Arc::new(Shared { locked, irps }),
+                    shared: Arc::new(Shared { handle, irps }),
                 })
             }
             raw::BAD_SIZE => Err(NewError::BadSize),
             raw::NO_MEMORY => Err(NewError::NoMemory),
             code => unreachable!("csq_new returned {code}"),
         }
-    }
-
-    /// What the lock guards, for one call.
-    #[inline]
-    pub(crate) fn lock(&self) -> MutexGuard<'_, Locked> {
-        self.shared.lock()
     }
 
     /// A pass: one that was given back, if there is one, else a new one. Takes the lock.
@@ -163,7 +152,7 @@ impl Queue {
     /// # Ok::<(), Box<dyn std::error::Error>>(())
     /// ```
     pub fn passes_out(&self) -> u32 {
-        passes_out(&self.shared.lock().queue)
+        passes_out(&self.shared.lock())
     }
 
     /// The first listed IRP of a file object, or of any, in its present life: from the first on, or
@@ -194,12 +183,7 @@ impl Queue {
         let locked = self.shared.lock();
         // SAFETY: the handle is locked.
         match unsafe {
-            raw::csq_peek_next(
-                &locked.queue,
-                after.unwrap_or(raw::ANY),
-                file_of(peek),
-                &mut irp,
-            )
+            raw::csq_peek_next(&*locked, after.unwrap_or(raw::ANY), file_of(peek), &mut irp)
         } {
             raw::OK if peek != Peek::File(raw::ANY) => Ok(Some(Irp::of(irp))),
             raw::OK | raw::NONE => Ok(None),
@@ -221,7 +205,7 @@ impl Queue {
     pub fn len(&self) -> u32 {
         let mut len = 0;
         // SAFETY: the handle is locked.
-        let code = unsafe { raw::csq_len(&self.shared.lock().queue, &mut len) };
+        let code = unsafe { raw::csq_len(&*self.shared.lock(), &mut len) };
         debug_assert_eq!(code, raw::OK);
         len
     }
@@ -277,7 +261,7 @@ impl Queue {
     pub fn close(self) -> Result<Closed, PassesOut> {
         let mut locked = self.shared.lock();
         // SAFETY: the handle is locked.
-        match unsafe { raw::csq_close(&mut locked.queue) } {
+        match unsafe { raw::csq_close(&mut *locked) } {
             raw::OK => {
                 drop(locked);
                 Ok(Closed {
@@ -285,7 +269,7 @@ impl Queue {
                 })
             }
             raw::PASSES_OUT => {
-                let out = passes_out(&locked.queue);
+                let out = passes_out(&locked);
                 drop(locked);
                 Err(PassesOut { queue: self, out })
             }
@@ -362,7 +346,7 @@ impl Closed {
     pub fn irp(&self, irp: u32) -> Option<Left> {
         let mut left = RawLeft::default();
         // SAFETY: the handle is locked.
-        let code = unsafe { raw::csq_read_left(&self.shared.lock().queue, irp, &mut left) };
+        let code = unsafe { raw::csq_read_left(&*self.shared.lock(), irp, &mut left) };
         (code == raw::OK).then(|| Left {
             life: left.life,
             cancelled: left.cancelled == 1,
@@ -386,8 +370,7 @@ impl Iterator for Listed<'_> {
         let mut irp = 0;
         let after = self.after?;
         // SAFETY: the handle is locked.
-        let code =
-            unsafe { raw::csq_read_listed(&self.queue.shared.lock().queue, after, &mut irp) };
+        let code = unsafe { raw::csq_read_listed(&*self.queue.shared.lock(), after, &mut irp) };
         self.after = (code == raw::OK).then_some(irp);
         self.after
     }

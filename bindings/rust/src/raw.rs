@@ -1,4 +1,4 @@
-//! What `include/csq.h` declares, written again by hand.
+//! What `include/csq.h` and `include/csq_ledger.h` declare, written again by hand.
 
 use std::os::raw::c_void;
 use std::ptr::null_mut;
@@ -22,6 +22,7 @@ pub(crate) const BAD_SIZE: u32 = 19;
 pub(crate) const NO_MEMORY: u32 = 20;
 pub(crate) const EMPTY_HANDLE: u32 = 21;
 pub(crate) const NOT_LISTED: u32 = 23;
+pub(crate) const CLOSED: u32 = 24;
 
 /// In the place of a file object or of a listed IRP: any.
 pub(crate) const ANY: u32 = u32::MAX;
@@ -36,6 +37,11 @@ pub(crate) struct RawQueue {
 pub(crate) struct RawPass {
     pub(crate) at: *mut c_void,
     queue: u64,
+}
+
+#[repr(C)]
+pub(crate) struct RawLedger {
+    pub(crate) at: *mut c_void,
 }
 
 impl RawQueue {
@@ -80,7 +86,94 @@ pub(crate) struct RawIrp {
     pub(crate) life: u32,
 }
 
+/// In the place of a time: none.
+pub(crate) const NEVER: u64 = u64::MAX;
+
+/// Why a request ends without a worker, or isn't waited for (`enum csq_why`).
+pub(crate) const WHY_CANCEL: u32 = 1;
+pub(crate) const WHY_DRAIN: u32 = 2;
+pub(crate) const WHY_CLEANUP: u32 = 3;
+pub(crate) const WHY_FREE: u32 = 4;
+pub(crate) const WHY_DUE: u32 = 5;
+
+/// Where a request is (`enum csq_stage`).
+pub(crate) const STAGE_ENDING: u32 = 3;
+
+#[repr(C)]
+#[derive(Clone, Copy, Default)]
+pub(crate) struct RawLook {
+    pub(crate) stage: u32,
+    pub(crate) file: u32,
+    pub(crate) why: u32,
+}
+
+#[repr(C)]
+#[derive(Clone, Copy, Default)]
+pub(crate) struct RawEnded {
+    pub(crate) file: u32,
+    pub(crate) file_is_quiet: u32,
+    pub(crate) all_are_quiet: u32,
+}
+
 extern "C" {
+    pub(crate) fn csq_ledger_new(ledger: *mut RawLedger, size: *const RawSize) -> u32;
+    pub(crate) fn csq_ledger_new_with_file_limits(
+        ledger: *mut RawLedger,
+        size: *const RawSize,
+        limits: *const u32,
+        count: u32,
+    ) -> u32;
+    pub(crate) fn csq_ledger_free(ledger: *mut RawLedger) -> u32;
+    pub(crate) fn csq_ledger_close(ledger: *mut RawLedger) -> u32;
+    pub(crate) fn csq_ledger_close_file(ledger: *mut RawLedger, file: u32) -> u32;
+    pub(crate) fn csq_ledger_begin(
+        ledger: *mut RawLedger,
+        file: u32,
+        front: u32,
+        due: u64,
+        name: *mut RawIrp,
+    ) -> u32;
+    pub(crate) fn csq_ledger_take(
+        ledger: *mut RawLedger,
+        file: u32,
+        name: *mut RawIrp,
+        of_file: *mut u32,
+    ) -> u32;
+    pub(crate) fn csq_ledger_put_back(ledger: *mut RawLedger, name: RawIrp, front: u32) -> u32;
+    pub(crate) fn csq_ledger_finish(
+        ledger: *mut RawLedger,
+        name: RawIrp,
+        status: u32,
+        ended: *mut RawEnded,
+    ) -> u32;
+    pub(crate) fn csq_ledger_cancel(ledger: *mut RawLedger, name: RawIrp, why: u32) -> u32;
+    pub(crate) fn csq_ledger_drain_next(
+        ledger: *mut RawLedger,
+        file: u32,
+        why: u32,
+        name: *mut RawIrp,
+        of_file: *mut u32,
+    ) -> u32;
+    pub(crate) fn csq_ledger_expire(
+        ledger: *mut RawLedger,
+        now: u64,
+        name: *mut RawIrp,
+        stage: *mut u32,
+    ) -> u32;
+    pub(crate) fn csq_ledger_next_due(ledger: *const RawLedger, due: *mut u64) -> u32;
+    pub(crate) fn csq_ledger_end(ledger: *mut RawLedger, name: RawIrp, ended: *mut RawEnded)
+        -> u32;
+    pub(crate) fn csq_ledger_look(
+        ledger: *const RawLedger,
+        name: RawIrp,
+        look: *mut RawLook,
+    ) -> u32;
+    pub(crate) fn csq_ledger_len(
+        ledger: *const RawLedger,
+        file: u32,
+        listed: *mut u32,
+        under_way: *mut u32,
+    ) -> u32;
     pub(crate) fn csq_new_queue(queue: *mut RawQueue, size: *const RawSize) -> u32;
     pub(crate) fn csq_new_queue_with_file_limits(
         queue: *mut RawQueue,
@@ -198,6 +291,7 @@ mod tests {
             ("CSQ_NO_MEMORY", NO_MEMORY),
             ("CSQ_EMPTY_HANDLE", EMPTY_HANDLE),
             ("CSQ_NOT_LISTED", NOT_LISTED),
+            ("CSQ_CLOSED", CLOSED),
             ("CSQ_OTHER_QUEUE", OTHER_QUEUE),
         ];
         if let Some(header) = header() {

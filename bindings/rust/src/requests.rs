@@ -3,38 +3,36 @@
 #[cfg(feature = "async")]
 mod futures;
 mod owned;
+mod owned_request;
 mod pass;
 mod request;
-mod seat;
-mod slots;
+mod shared;
+mod state;
 mod waiting;
 
 #[cfg(feature = "async")]
-pub use futures::{CancelledFuture, RecvFuture};
-pub use owned::{OwnedPass, OwnedRequest};
+pub use futures::{CancelledFuture, DrainFuture, RecvFuture, SubmitFuture};
+pub use owned::OwnedPass;
+pub use owned_request::OwnedRequest;
 pub use pass::RequestPass;
 pub use request::{PutBack, Request, RequestId};
-pub(crate) use slots::Free;
-pub(crate) use waiting::Waiting;
 
 use crate::errors::{NewError, PassError, PassesOut, UnknownFile};
-use crate::lock::Locked;
-use crate::queue::Queue;
-use crate::words::Size;
-use slots::Slots;
+use crate::ledger::{Ledger, Why};
+use crate::words::{Peek, Size};
+use pass::Share;
+use shared::Shared;
+use state::State;
 use std::fmt;
-use std::ops::Deref;
-use std::sync::atomic::{AtomicU64, Ordering};
-use std::sync::{Arc, MutexGuard};
-use std::task::Waker;
+use std::sync::Arc;
 
 /// A cancel-safe queue of requests that carry a value, as an IRP carries its buffers.
 ///
 /// [`RequestPass::submit`] puts a value in for a file object. It comes out once: to the worker that
 /// takes the request ([`RequestPass::next`]), to the caller that cancels it
 /// ([`RequestPass::cancel`]), to the cleanup of its file object ([`RequestPass::cleanup`]), or to
-/// the close of the queue ([`Requests::close`]). Which IRPs stand behind the requests, and their
-/// lives, is the queue's own affair: it takes a free one for each submit.
+/// the close of the queue ([`Requests::close`]). Which IRPs the requests have, and in which lives,
+/// is the queue's own affair: it takes a free one for each submit.
 ///
 /// ```
 /// # fn main() -> Result<(), Box<dyn std::error::Error>> {
@@ -64,18 +62,24 @@ use std::task::Waker;
 ///
 /// No value comes out twice, and none is dropped twice, whatever is dropped, forgotten
 /// ([`std::mem::forget`]) or let go in a panic. What is still listed where queue and passes are
-/// dropped is dropped with the last of them. A [`Request`] that is forgotten keeps its value and
-/// its number for ever; its IRP is completed when its pass is dropped. (A forgotten
-/// [`OwnedRequest`] keeps its pass too.)
+/// dropped is dropped with the last of them. A [`Request`] that is forgotten keeps its value, and
+/// its number until queue and passes are dropped. (A forgotten [`OwnedRequest`] keeps its pass
+/// too.)
 ///
 /// A worker waits for the next request ([`RequestPass::recv`], [`RequestPass::recv_timeout`],
 /// [`RequestPass::iter`]), and a submit or a put-back wakes one who waits for it, until the queue
-/// is shut down ([`Requests::shutdown`]) or dropped.
+/// is shut down ([`Requests::shutdown`]) or dropped. A submit waits for room
+/// ([`RequestPass::submit_timeout`]), and ends or takes of requests wake those who wait for it.
+///
+/// A request may have a deadline ([`RequestPass::submit_until`]). When it is over, the request is
+/// cancelled by whoever looks for it: an event loop ([`OwnedPass::cancel_due`]) or a thread
+/// ([`OwnedPass::recv_due`]).
 ///
 /// Passes borrow nothing, so a queue may be dropped while threads wait through them. Then all are
 /// woken, and from then on nobody waits: what is listed is still taken, and where nothing is, a
-/// worker learns what it learns after a shutdown. Passes do the rest as before; only a shutdown
-/// refuses submits. So keep the queue for as long as workers are to wait.
+/// worker learns what it learns after a shutdown; a submit that finds no room is refused at once.
+/// Passes do the rest as before; only a shutdown refuses submits. So keep the queue for as long as
+/// workers are to wait.
 ///
 /// ```
 /// # use csq::*;
@@ -146,48 +150,14 @@ use std::task::Waker;
 ///
 /// [`SubmitError::LivesSpent`]: crate::SubmitError::LivesSpent
 pub struct Requests<T> {
-    queue: Kept,
     shared: Arc<Shared<T>>,
 }
 
-/// The queue of a queue of requests, which ends all waits where it is dropped. None once it was
-/// closed.
-struct Kept(Option<Queue>);
-
-impl Deref for Kept {
-    type Target = Queue;
-
-    fn deref(&self) -> &Queue {
-        self.0.as_ref().expect("the queue until its close")
-    }
-}
-
-impl Drop for Kept {
+/// Ends all waits for a request, for room and for a time: passes may outlive the queue.
+impl<T> Drop for Requests<T> {
     fn drop(&mut self) {
-        if let Some(queue) = &self.0 {
-            wake_those(queue.lock(), Waiting::end);
-        }
+        self.shared.with(|state| state.waiting.end());
     }
-}
-
-/// What a queue of requests and its passes share, beside the queue itself.
-struct Shared<T> {
-    slots: Slots<Entry<T>>,
-    // No two queues have the same.
-    name: u64,
-}
-
-/// A value, and the file object that it was submitted for.
-struct Entry<T> {
-    value: T,
-    file: u32,
-}
-
-/// Wakes those whom this takes out, once the lock is free.
-fn wake_those(mut locked: MutexGuard<'_, Locked>, taken: impl FnOnce(&mut Waiting) -> Vec<Waker>) {
-    let wakers = taken(&mut locked.waiting);
-    drop(locked);
-    wakers.into_iter().for_each(Waker::wake);
 }
 
 impl<T> fmt::Debug for Requests<T> {
@@ -210,7 +180,7 @@ impl<T> Requests<T> {
     /// # Ok::<(), Box<dyn std::error::Error>>(())
     /// ```
     pub fn new(size: &Size) -> Result<Requests<T>, NewError> {
-        Ok(Requests::over(Queue::new(size)?, size))
+        Requests::over(size, Ledger::new(size))
     }
 
     /// A queue of this size, each file object with a limit of its own: how many requests may be
@@ -229,30 +199,19 @@ impl<T> Requests<T> {
     /// # Ok::<(), Box<dyn std::error::Error>>(())
     /// ```
     pub fn with_file_limits(size: &Size, file_limits: &[u32]) -> Result<Requests<T>, NewError> {
-        Ok(Requests::over(
-            Queue::with_file_limits(size, file_limits)?,
-            size,
-        ))
+        Requests::over(size, Ledger::with_file_limits(size, file_limits))
     }
 
-    // The queue is of this size, so the number of its IRPs is in range.
-    fn over(queue: Queue, size: &Size) -> Requests<T> {
-        static NAMES: AtomicU64 = AtomicU64::new(0);
-        queue.lock().free = Free::new(size.irps);
-        Requests {
-            queue: Kept(Some(queue)),
-            shared: Arc::new(Shared {
-                slots: Slots::new(size.irps),
-                name: NAMES.fetch_add(1, Ordering::Relaxed),
-            }),
-        }
+    fn over(size: &Size, ledger: Result<Ledger, NewError>) -> Result<Requests<T>, NewError> {
+        let shared = Arc::new(Shared::new(State::new(size, ledger)?));
+        Ok(Requests { shared })
     }
 
-    /// A pass: one that was given back, if there is one, otherwise a new one. Takes the lock.
+    /// A pass. Takes the lock.
     ///
     /// # Errors
     ///
-    /// [`PassError`]: all passes are out, or memory was refused.
+    /// [`PassError::NoPass`]: all passes are out.
     ///
     /// ```
     /// # use csq::*;
@@ -263,16 +222,14 @@ impl<T> Requests<T> {
     /// # Ok::<(), Box<dyn std::error::Error>>(())
     /// ```
     pub fn pass(&self) -> Result<RequestPass<T>, PassError> {
-        let pass = self.queue.pass()?;
-        Ok(RequestPass::new(Arc::clone(&self.shared), pass))
+        Ok(RequestPass::of(Share::of(&self.shared)?))
     }
 
-    /// A pass for several threads: one that was given back, if there is one, otherwise a new one.
-    /// Takes the lock.
+    /// A pass for several threads. Takes the lock.
     ///
     /// # Errors
     ///
-    /// [`PassError`]: all passes are out, or memory was refused.
+    /// [`PassError::NoPass`]: all passes are out.
     ///
     /// ```
     /// # use csq::*;
@@ -287,8 +244,7 @@ impl<T> Requests<T> {
     /// # Ok::<(), Box<dyn std::error::Error>>(())
     /// ```
     pub fn owned_pass(&self) -> Result<OwnedPass<T>, PassError> {
-        let pass = self.queue.pass()?;
-        Ok(OwnedPass::new(Arc::clone(&self.shared), pass))
+        Ok(OwnedPass::of(Share::of(&self.shared)?))
     }
 
     /// How many passes are out.
@@ -301,7 +257,7 @@ impl<T> Requests<T> {
     /// # Ok::<(), Box<dyn std::error::Error>>(())
     /// ```
     pub fn passes_out(&self) -> u32 {
-        self.queue.passes_out()
+        self.shared.with(|state| state.passes_out())
     }
 
     /// How many requests are listed. Takes the lock.
@@ -315,7 +271,8 @@ impl<T> Requests<T> {
     /// # Ok::<(), Box<dyn std::error::Error>>(())
     /// ```
     pub fn len(&self) -> u32 {
-        self.queue.len()
+        let counts = self.shared.with(|state| state.counts(Peek::Any));
+        counts.map_or(0, |counts| counts.listed)
     }
 
     /// Whether none is listed. Takes the lock.
@@ -330,7 +287,7 @@ impl<T> Requests<T> {
     /// # Ok::<(), Box<dyn std::error::Error>>(())
     /// ```
     pub fn is_empty(&self) -> bool {
-        self.queue.is_empty()
+        self.len() == 0
     }
 
     /// How many requests are listed for a file object. Takes the lock.
@@ -348,7 +305,8 @@ impl<T> Requests<T> {
     /// # Ok::<(), Box<dyn std::error::Error>>(())
     /// ```
     pub fn file_len(&self, file: u32) -> Result<u32, UnknownFile> {
-        self.queue.file_len(file)
+        let counts = self.shared.with(|state| state.counts(Peek::File(file)));
+        counts.map(|counts| counts.listed).ok_or(UnknownFile)
     }
 
     /// Shuts the queue down for good: each further submit is refused ([`SubmitError::ShutDown`]),
@@ -369,7 +327,7 @@ impl<T> Requests<T> {
     /// # Ok::<(), Box<dyn std::error::Error>>(())
     /// ```
     pub fn shutdown(&self) {
-        wake_those(self.queue.lock(), Waiting::shut_down);
+        self.shared.with(State::shut_down);
     }
 
     /// Closes the queue, once no pass is out, and hands over the values that are still listed, in
@@ -390,26 +348,9 @@ impl<T> Requests<T> {
     /// # Ok::<(), Box<dyn std::error::Error>>(())
     /// ```
     pub fn close(self) -> Result<Vec<T>, PassesOut<Requests<T>>> {
-        let Requests {
-            queue: mut kept,
-            shared,
-        } = self;
-        let queue = kept.0.take().expect("the queue until its close");
-        let closed = match queue.close() {
-            Ok(closed) => closed,
-            Err(PassesOut { queue, out }) => {
-                let queue = Kept(Some(queue));
-                let queue = Requests { queue, shared };
-                return Err(PassesOut { queue, out });
-            }
-        };
-        match Arc::try_unwrap(shared) {
-            Ok(shared) => {
-                let entries = shared.slots.into_values(closed.listed());
-                Ok(entries.into_iter().map(|entry| entry.value).collect())
-            }
-            // A pass lets go of its share before it is given back.
-            Err(_) => unreachable!("closed while a pass is out"),
+        match self.passes_out() {
+            0 => Ok(self.shared.end_listed(Peek::Any, Why::Close)),
+            out => Err(PassesOut { queue: self, out }),
         }
     }
 }

@@ -52,6 +52,14 @@ pub enum Place {
     Front,
 }
 
+impl Place {
+    /// The number that the library has for it.
+    #[inline]
+    pub(crate) fn raw(self) -> u32 {
+        u32::from(self == Place::Front)
+    }
+}
+
 /// Which IRPs a removal takes (the peek context of `IoCsqRemoveNextIrp`).
 #[derive(Clone, Copy, Debug, PartialEq, Eq, Hash)]
 pub enum Peek {

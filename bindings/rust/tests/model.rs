@@ -1,6 +1,7 @@
 //! Random calls of queues of requests in one thread, beside a model of them.
 use csq::*;
 use std::thread;
+use std::time::{Duration, Instant};
 
 const IRPS: u32 = 6;
 const FILES: u32 = 3;
@@ -51,25 +52,37 @@ fn is_known(peek: Peek) -> bool {
     peek == Peek::Any || (0..FILES).any(|file| peek == Peek::File(file))
 }
 
-/// What was submitted.
+/// What was submitted, and when it is due, in milliseconds since the queue was made.
 #[derive(Clone, Copy)]
 struct Submitted {
     id: RequestId,
     value: u32,
     file: u32,
+    due: Option<u64>,
 }
 
-/// What was taken, and whether a cancel has named it since.
+impl Submitted {
+    /// A deadline is over in the millisecond after it.
+    fn is_due(&self, now: u64) -> bool {
+        self.due.map_or(false, |due| due < now)
+    }
+}
+
+/// What was taken, and what has named it since.
 struct Taken<'pass> {
     submitted: Submitted,
     request: Request<'pass, u32>,
-    is_cancelled: bool,
+    cancelled_by: Option<CancelledBy>,
 }
 
 /// What a queue of requests is to be, beside it.
 struct Model<'pass> {
     pass: &'pass RequestPass<u32>,
+    clock: &'pass OwnedPass<u32>,
     draws: Draws,
+    /// The queue was made then, or a little before; and the time since, which the model tells.
+    start: Instant,
+    now: u64,
     is_shut: bool,
     is_closed: [bool; FILES as usize],
     values: u32,
@@ -79,9 +92,13 @@ struct Model<'pass> {
 }
 
 impl<'pass> Model<'pass> {
-    fn of(pass: &'pass RequestPass<u32>, seed: u64) -> Model<'pass> {
+    fn of(pass: &'pass RequestPass<u32>, clock: &'pass OwnedPass<u32>, seed: u64) -> Model<'pass> {
         Model {
             pass,
+            clock,
+            // Far from what the machine's clock will say in this test.
+            start: Instant::now() + Duration::from_secs(3_600),
+            now: 0,
             draws: Draws(seed.wrapping_mul(0x9E37_79B9_7F4A_7C15) | 1),
             is_shut: false,
             is_closed: [false; FILES as usize],
@@ -90,6 +107,49 @@ impl<'pass> Model<'pass> {
             taken: Vec::new(),
             over: Vec::new(),
         }
+    }
+
+    /// In the middle of a millisecond of the queue's clock, more or less.
+    fn at(&self, millis: u64) -> Instant {
+        self.start + Duration::from_millis(millis)
+    }
+
+    /// Some time goes by, and what is due is cancelled.
+    fn tick(&mut self) {
+        self.now += self.draws.below(8) as u64;
+        let now = self.now;
+        let (values, next) = self.clock.cancel_due(self.at(now));
+        let (ended, kept) = self.listed.iter().partition(|it| it.is_due(now));
+        self.listed = kept;
+        let mut ended: Vec<Submitted> = ended;
+        ended.sort_by_key(|it| it.due);
+        self.over.extend(ended.iter().map(|it| it.id));
+        let (mut values, mut wanted) =
+            (values, ended.iter().map(|it| it.value).collect::<Vec<_>>());
+        values.sort_unstable();
+        wanted.sort_unstable();
+        assert_eq!(values, wanted);
+        for taken in &mut self.taken {
+            if taken.submitted.is_due(now) {
+                taken.cancelled_by.get_or_insert(CancelledBy::Deadline);
+            }
+        }
+        self.check_next(next);
+    }
+
+    /// When the next one is due: of what is under way and wasn't due yet.
+    fn check_next(&self, next: Option<Instant>) {
+        let taken = self.taken.iter().map(|it| &it.submitted);
+        let those = self.listed.iter().chain(taken);
+        let dues = those
+            .filter(|it| !it.is_due(self.now))
+            .filter_map(|it| it.due);
+        let (first, second) = match dues.min() {
+            None => return assert_eq!(next, None),
+            Some(due) => (self.at(due), self.at(due + 2)),
+        };
+        let next = next.expect("one is due");
+        assert!(first <= next && next <= second);
     }
 
     fn listed_for(&self, peek: Peek) -> u32 {
@@ -120,21 +180,38 @@ impl<'pass> Model<'pass> {
 
     fn submit(&mut self) {
         let (file, place) = (self.draws.file(), self.draws.place());
-        let refused = if self.is_shut {
-            Some(SubmitError::ShutDown)
-        } else if self.listed.len() + self.taken.len() == IRPS as usize {
-            Some(SubmitError::NoIrp)
-        } else if file >= FILES {
+        let all_under_way = self.listed.len() + self.taken.len() == IRPS as usize;
+        let refused = if file >= FILES {
             Some(SubmitError::UnknownFile)
+        } else if self.is_shut {
+            Some(SubmitError::ShutDown)
+        } else if self.is_closed[file as usize] {
+            Some(SubmitError::FileClosed)
+        } else if all_under_way {
+            Some(SubmitError::NoIrp)
         } else {
             self.refusal(file).map(|(cause, _)| cause)
         };
         self.values += 1;
         let value = self.values;
-        match self.pass.submit(value, file, place) {
+        let due = self
+            .draws
+            .one_in(3)
+            .then(|| self.now + self.draws.below(20) as u64);
+        let submitted = match due {
+            None => self.pass.submit(value, file, place),
+            Some(due) => self.pass.submit_until(value, file, place, self.at(due)),
+        };
+        match submitted {
             Ok(id) => {
                 assert_eq!(refused, None);
-                self.list(Submitted { id, value, file }, place);
+                let submitted = Submitted {
+                    id,
+                    value,
+                    file,
+                    due,
+                };
+                self.list(submitted, place);
             }
             Err(got) => assert_eq!((Some(got.cause), got.into_value()), (refused, value)),
         }
@@ -150,11 +227,11 @@ impl<'pass> Model<'pass> {
                     (request.id(), *request.value()),
                     (submitted.id, submitted.value)
                 );
-                let is_cancelled = false;
+                let cancelled_by = None;
                 self.taken.push(Taken {
                     submitted,
                     request,
-                    is_cancelled,
+                    cancelled_by,
                 });
             }
             Err(cause) => {
@@ -175,10 +252,11 @@ impl<'pass> Model<'pass> {
         if let Some(Taken {
             submitted,
             request,
-            is_cancelled,
+            cancelled_by,
         }) = self.some_taken()
         {
-            assert_eq!(request.is_cancelled(), is_cancelled);
+            assert_eq!(request.cancelled_by(), cancelled_by);
+            assert_eq!(request.is_cancelled(), cancelled_by.is_some());
             self.over.push(submitted.id);
             if self.draws.one_in(4) {
                 drop(request);
@@ -190,21 +268,19 @@ impl<'pass> Model<'pass> {
 
     fn put_back(&mut self) {
         let place = self.draws.place();
-        let (submitted, request, is_cancelled) = match self.some_taken() {
-            Some(taken) => (taken.submitted, taken.request, taken.is_cancelled),
+        let (submitted, request, cancelled_by) = match self.some_taken() {
+            Some(taken) => (taken.submitted, taken.request, taken.cancelled_by),
             None => return,
         };
         let refused = self.refusal(submitted.file).map(|(_, cause)| cause);
         match request.put_back(place) {
             Ok(PutBack::Pending) => {
-                assert_eq!((refused, is_cancelled), (None, false));
+                assert_eq!((refused, cancelled_by), (None, None));
                 self.list(submitted, place);
             }
             Ok(PutBack::Cancelled(value)) => {
-                assert_eq!(
-                    (refused, is_cancelled, value),
-                    (None, true, submitted.value)
-                );
+                assert!(cancelled_by.is_some());
+                assert_eq!((refused, value), (None, submitted.value));
                 self.over.push(submitted.id);
             }
             Err(NotPutBack {
@@ -215,7 +291,7 @@ impl<'pass> Model<'pass> {
                 self.taken.push(Taken {
                     submitted,
                     request,
-                    is_cancelled,
+                    cancelled_by,
                 });
             }
         }
@@ -241,7 +317,7 @@ impl<'pass> Model<'pass> {
             self.over.push(id);
         } else if let Some(taken) = self.taken.iter_mut().find(|it| it.submitted.id == id) {
             assert_eq!(cancelled, Err(Missed::Taken));
-            taken.is_cancelled = true;
+            taken.cancelled_by.get_or_insert(CancelledBy::Caller);
         } else {
             assert_eq!(cancelled, Err(Missed::Completed));
         }
@@ -288,7 +364,8 @@ impl<'pass> Model<'pass> {
             350..=569 => self.next(),
             570..=719 => self.complete(),
             720..=839 => self.put_back(),
-            840..=979 => self.cancel(),
+            840..=949 => self.cancel(),
+            950..=979 => self.tick(),
             980..=997 => self.drain(),
             998 => self.cleanup(),
             _ => {
@@ -317,11 +394,11 @@ fn run(seed: u64, list: List) {
     let size = Size {
         limit: LIMIT,
         list,
-        ..Size::new(IRPS, FILES, 1)
+        ..Size::new(IRPS, FILES, 2)
     };
     let queue = Requests::with_file_limits(&size, &FILE_LIMITS).unwrap();
-    let pass = queue.pass().unwrap();
-    let mut model = Model::of(&pass, seed);
+    let (pass, clock) = (queue.pass().unwrap(), queue.owned_pass().unwrap());
+    let mut model = Model::of(&pass, &clock, seed);
     let mut at = At { seed, call: 0 };
     while at.call < CALLS {
         at.call += 1;
@@ -330,7 +407,7 @@ fn run(seed: u64, list: List) {
     }
     let listed: Vec<_> = model.listed.iter().map(|it| it.value).collect();
     drop(model);
-    drop(pass);
+    drop((pass, clock));
     assert_eq!(queue.close().unwrap(), listed);
 }
 

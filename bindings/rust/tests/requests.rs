@@ -93,9 +93,10 @@ fn a_refusal_hands_the_value_back() {
         let served = [(); 2].map(|()| pass.next(Peek::Any).unwrap());
         pass.submit(String::new(), 0, Place::Back).unwrap();
         pass.submit(String::new(), 1, Place::Back).unwrap();
-        assert_eq!(refusal(2), SubmitError::NoIrp);
-        drop(served);
         assert_eq!(refusal(2), SubmitError::FileClosed);
+        assert_eq!(refusal(0), SubmitError::NoIrp);
+        drop(served);
+        assert_eq!(refusal(0), SubmitError::FileFull);
     }
 }
 
@@ -268,17 +269,13 @@ fn what_is_forgotten_is_lost_and_never_comes_twice() {
             SubmitError::NoIrp
         );
         assert_eq!(drops.get(), 1);
-        // The pass completes its IRP.
         drop(pass);
-        assert_eq!(other.cancel(id).err(), Some(Missed::Completed));
-        assert_eq!(
-            cause(other.submit(Counted(&drops), 0, Place::Back)),
-            SubmitError::NoIrp
-        );
+        assert_eq!(other.cancel(id).err(), Some(Missed::Taken));
+        // A pass that is forgotten is out for ever, and so are the queue and its values.
         std::mem::forget(other);
         let queue = queue.close().unwrap_err().queue;
         drop(queue);
-        assert_eq!(drops.get(), 2);
+        assert_eq!(drops.get(), 1);
     }
 }
 

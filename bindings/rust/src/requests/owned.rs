@@ -1,26 +1,18 @@
-//! Passes and requests that borrow nothing, and that threads may share.
+//! Passes that threads share.
 
 #[cfg(feature = "async")]
-use super::futures::{CancelledFuture, RecvFuture};
-use super::request::{PutBack, RequestId, Taken};
-use super::seat::{Held, Seat, Through};
-use super::Shared;
-use crate::errors::{
-    Missed, NotPutBack, RecvError, RecvTimeoutError, Refused, TryRecvError, UnknownFile,
-};
-use crate::pass::Pass;
+use super::futures::{DrainFuture, RecvFuture, SubmitFuture};
+use super::owned_request::OwnedRequest;
+use super::pass::{Share, Through};
+use super::request::{RequestId, Taken};
+use super::shared::Shared;
+use super::state::{Held, State, Submission};
+use crate::errors::{Missed, RecvError, RecvTimeoutError, Refused, TryRecvError, UnknownFile};
+use crate::ledger::Why;
 use crate::words::{Peek, Place};
 use std::fmt;
 use std::sync::Arc;
-use std::time::Duration;
-
-/// A seat that threads share.
-struct SharedSeat<T>(Seat<T>);
-
-// SAFETY: each call by the seat's pass is made with the queue's lock, but for those of its drop,
-// when nobody else has it: so the pass is used by one thread at a time, and goes from one to
-// another by that lock. The values are in slots, which go from thread to thread if `T` does.
-unsafe impl<T: Send> Sync for SharedSeat<T> {}
+use std::time::{Duration, Instant};
 
 /// A pass of a queue of requests that threads share: a clone of it is the same pass. Each call
 /// through it takes the lock.
@@ -29,13 +21,13 @@ unsafe impl<T: Send> Sync for SharedSeat<T> {}
 /// pass, where a [`RequestPass`](crate::RequestPass) is for one thread. Dropped with its last clone
 /// and request, it is given back.
 pub struct OwnedPass<T> {
-    seat: Arc<SharedSeat<T>>,
+    share: Arc<Share<T>>,
 }
 
 impl<T> Clone for OwnedPass<T> {
     fn clone(&self) -> OwnedPass<T> {
-        let seat = Arc::clone(&self.seat);
-        OwnedPass { seat }
+        let share = Arc::clone(&self.share);
+        OwnedPass { share }
     }
 }
 
@@ -48,16 +40,20 @@ impl<T> fmt::Debug for OwnedPass<T> {
 impl<T> Through for OwnedPass<T> {
     type Value = T;
 
-    fn seat(&self) -> &Seat<T> {
-        &self.seat.0
+    fn shared(&self) -> &Shared<T> {
+        self.share.shared()
     }
 }
 
 impl<T> OwnedPass<T> {
-    /// The pass is of the queue whose share this is.
-    pub(super) fn new(shared: Arc<Shared<T>>, pass: Pass) -> OwnedPass<T> {
-        let seat = Arc::new(SharedSeat(Seat::new(shared, pass)));
-        OwnedPass { seat }
+    pub(super) fn of(share: Share<T>) -> OwnedPass<T> {
+        let share = Arc::new(share);
+        OwnedPass { share }
+    }
+
+    /// Whether this is the same pass.
+    pub(super) fn is(&self, other: &OwnedPass<T>) -> bool {
+        Arc::ptr_eq(&self.share, &other.share)
     }
 
     pub(super) fn request(&self, (held, value): (Held, T)) -> OwnedRequest<T> {
@@ -81,7 +77,115 @@ impl<T> OwnedPass<T> {
     /// # Ok::<(), Box<dyn std::error::Error>>(())
     /// ```
     pub fn submit(&self, value: T, file: u32, place: Place) -> Result<RequestId, Refused<T>> {
-        self.seat().submit(value, file, place)
+        let due = None;
+        self.shared().submit(Submission {
+            value,
+            file,
+            place,
+            due,
+        })
+    }
+
+    /// [`OwnedPass::submit`], which waits for room at most this long, as
+    /// [`RequestPass::submit_timeout`](crate::RequestPass::submit_timeout) does.
+    ///
+    /// # Errors
+    ///
+    /// [`SubmitError`](crate::SubmitError) in a [`Refused`], which hands the value back.
+    ///
+    /// ```
+    /// # use csq::*;
+    /// # let queue = Requests::new(&Size::new(1, 1, 2))?;
+    /// # let pass = queue.owned_pass()?;
+    /// # use std::time::Duration;
+    /// pass.submit("first", 0, Place::Back)?;
+    /// let worker = std::thread::spawn({
+    ///     let pass = pass.clone();
+    ///     move || pass.recv(Peek::Any).expect("a request").complete()
+    /// });
+    /// pass.submit_timeout("second", 0, Place::Back, Duration::from_secs(60))?;
+    /// # worker.join().unwrap();
+    /// let full = pass.submit_timeout("third", 0, Place::Back, Duration::from_millis(1));
+    /// assert_eq!(full.unwrap_err().cause, SubmitError::NoIrp);
+    /// # Ok::<(), Box<dyn std::error::Error>>(())
+    /// ```
+    pub fn submit_timeout(
+        &self,
+        value: T,
+        file: u32,
+        place: Place,
+        limit: Duration,
+    ) -> Result<RequestId, Refused<T>> {
+        let due = None;
+        let it = Submission {
+            value,
+            file,
+            place,
+            due,
+        };
+        self.shared().submit_waiting(it, limit)
+    }
+
+    /// [`OwnedPass::submit`] with a deadline, as
+    /// [`RequestPass::submit_until`](crate::RequestPass::submit_until) does.
+    ///
+    /// # Errors
+    ///
+    /// [`SubmitError`](crate::SubmitError) in a [`Refused`], which hands the value back.
+    ///
+    /// ```
+    /// # use csq::*;
+    /// # let queue = Requests::new(&Size::new(4, 2, 2))?;
+    /// # let pass = queue.owned_pass()?;
+    /// # use std::time::{Duration, Instant};
+    /// let due = Instant::now() + Duration::from_secs(60);
+    /// pass.submit_until("job", 0, Place::Back, due)?;
+    /// let (ended, next) = pass.cancel_due(due + Duration::from_millis(1));
+    /// assert_eq!((ended, next), (vec!["job"], None));
+    /// # Ok::<(), Box<dyn std::error::Error>>(())
+    /// ```
+    pub fn submit_until(
+        &self,
+        value: T,
+        file: u32,
+        place: Place,
+        due: Instant,
+    ) -> Result<RequestId, Refused<T>> {
+        let due = Some(self.shared().due_at(due));
+        self.shared().submit(Submission {
+            value,
+            file,
+            place,
+            due,
+        })
+    }
+
+    /// [`OwnedPass::submit_timeout`] for a task, which waits by its waker and without a limit.
+    /// Dropped before its end, it submits nothing and drops its value.
+    ///
+    /// ```
+    /// # use csq::*;
+    /// # let queue = Requests::new(&Size::new(4, 2, 2))?;
+    /// # let pass = queue.owned_pass()?;
+    /// async fn send(pass: OwnedPass<&'static str>) -> Result<RequestId, Refused<&'static str>> {
+    ///     pass.submit_async("job", 0, Place::Back).await
+    /// }
+    /// # drop(send(pass));
+    /// # let _queue: Requests<&str> = queue;
+    /// # Ok::<(), Box<dyn std::error::Error>>(())
+    /// ```
+    #[cfg(feature = "async")]
+    pub fn submit_async(&self, value: T, file: u32, place: Place) -> SubmitFuture<T> {
+        let due = None;
+        SubmitFuture::new(
+            self.clone(),
+            Submission {
+                value,
+                file,
+                place,
+                due,
+            },
+        )
     }
 
     /// Takes the first listed request of a file object, or of any, that no canceller has.
@@ -100,7 +204,7 @@ impl<T> OwnedPass<T> {
     /// # Ok::<(), Box<dyn std::error::Error>>(())
     /// ```
     pub fn try_recv(&self, peek: Peek) -> Result<OwnedRequest<T>, TryRecvError> {
-        Ok(self.request(self.seat().try_take(peek)?))
+        Ok(self.request(self.shared().try_take(peek)?))
     }
 
     /// [`OwnedPass::try_recv`], and waits until there is one, as
@@ -123,7 +227,7 @@ impl<T> OwnedPass<T> {
     /// # Ok::<(), Box<dyn std::error::Error>>(())
     /// ```
     pub fn recv(&self, peek: Peek) -> Result<OwnedRequest<T>, RecvError> {
-        let taken = self.seat().wait(peek, None).map_err(|_| RecvError)?;
+        let taken = self.shared().wait(peek, None).map_err(|_| RecvError)?;
         Ok(self.request(taken))
     }
 
@@ -154,7 +258,7 @@ impl<T> OwnedPass<T> {
         peek: Peek,
         limit: Duration,
     ) -> Result<OwnedRequest<T>, RecvTimeoutError> {
-        Ok(self.request(self.seat().wait(peek, Some(limit))?))
+        Ok(self.request(self.shared().wait(peek, Some(limit))?))
     }
 
     /// Takes one request after the other by [`OwnedPass::recv`], until it returns an error.
@@ -175,6 +279,36 @@ impl<T> OwnedPass<T> {
     /// ```
     pub fn iter(&self, peek: Peek) -> impl Iterator<Item = OwnedRequest<T>> + '_ {
         std::iter::from_fn(move || self.recv(peek).ok())
+    }
+
+    /// Takes a first request as [`OwnedPass::recv`] does, and then more under one lock, as
+    /// [`RequestPass::recv_many`](crate::RequestPass::recv_many) does.
+    ///
+    /// # Errors
+    ///
+    /// [`RecvError`]: the queue was shut down or dropped, and none is listed.
+    ///
+    /// # Panics
+    ///
+    /// There is no such file object, or `most` is 0.
+    ///
+    /// ```
+    /// # use csq::*;
+    /// # let queue = Requests::new(&Size::new(4, 2, 2))?;
+    /// # let pass = queue.owned_pass()?;
+    /// for job in 0..4 {
+    ///     pass.submit(job, 0, Place::Back)?;
+    /// }
+    /// let batch = pass.recv_many(Peek::Any, 3)?;
+    /// assert_eq!(OwnedRequest::complete_all(batch), [0, 1, 2]);
+    /// # Ok::<(), Box<dyn std::error::Error>>(())
+    /// ```
+    pub fn recv_many(&self, peek: Peek, most: usize) -> Result<Vec<OwnedRequest<T>>, RecvError> {
+        assert!(most > 0, "a batch has one request or more");
+        let mut batch = vec![self.recv(peek)?];
+        let more = self.shared().take_more(peek, most - 1);
+        batch.extend(more.into_iter().map(|taken| self.request(taken)));
+        Ok(batch)
     }
 
     /// The next request, once there is one: [`OwnedPass::recv`] for a task, which waits by its
@@ -199,11 +333,12 @@ impl<T> OwnedPass<T> {
     /// ```
     #[cfg(feature = "async")]
     pub fn recv_async(&self, peek: Peek) -> RecvFuture<T> {
-        self.seat().expect_known(peek);
+        self.shared().expect_known(peek);
         RecvFuture::new(self.clone(), peek)
     }
 
-    /// Cancels a request, and hands its value over. Else somebody else has the value, or had it.
+    /// Cancels a request, and hands its value over. Otherwise somebody else has the value, or had
+    /// it.
     ///
     /// # Errors
     ///
@@ -219,9 +354,7 @@ impl<T> OwnedPass<T> {
     /// # Ok::<(), Box<dyn std::error::Error>>(())
     /// ```
     pub fn cancel(&self, request: RequestId) -> Result<T, Missed> {
-        let (seat, locked) = (self.seat(), self.seat().lock());
-        let marked = seat.mark(request);
-        seat.cancel(request, marked, || locked)
+        self.shared().cancel(request)
     }
 
     /// Closes a file object and cancels what is listed for it, as
@@ -241,8 +374,8 @@ impl<T> OwnedPass<T> {
     /// # Ok::<(), Box<dyn std::error::Error>>(())
     /// ```
     pub fn cleanup(&self, file: u32) -> Result<Vec<T>, UnknownFile> {
-        self.seat().close_file(file)?;
-        Ok(self.seat().cancel_listed(Peek::File(file)))
+        self.shared().close_file(file)?;
+        Ok(self.shared().end_listed(Peek::File(file), Why::Cleanup))
     }
 
     /// Cancels what is listed, as [`RequestPass::drain`](crate::RequestPass::drain) does.
@@ -262,8 +395,76 @@ impl<T> OwnedPass<T> {
     /// # Ok::<(), Box<dyn std::error::Error>>(())
     /// ```
     pub fn drain(&self, peek: Peek) -> Result<Vec<T>, UnknownFile> {
-        self.seat().knows(peek)?;
-        Ok(self.seat().cancel_listed(peek))
+        self.shared().knows(peek)?;
+        Ok(self.shared().end_listed(peek, Why::Drain))
+    }
+
+    /// [`OwnedPass::drain`], which goes on until none of the file object, or none at all, is under
+    /// way: it also cancels what is submitted or put back meanwhile, and waits for what was taken,
+    /// by the task's waker. Its value are the values that it cancelled. Dropped before its end, it
+    /// drops those that it has.
+    ///
+    /// # Panics
+    ///
+    /// There is no such file object.
+    ///
+    /// ```
+    /// # use csq::*;
+    /// # let queue = Requests::new(&Size::new(4, 2, 2))?;
+    /// # let pass = queue.owned_pass()?;
+    /// async fn gone(pass: OwnedPass<&'static str>, connection: u32) -> usize {
+    ///     pass.drain_async(Peek::File(connection)).await.len()
+    /// }
+    /// # drop(gone(pass, 1));
+    /// # let _queue: Requests<&str> = queue;
+    /// # Ok::<(), Box<dyn std::error::Error>>(())
+    /// ```
+    #[cfg(feature = "async")]
+    pub fn drain_async(&self, peek: Peek) -> DrainFuture<T> {
+        self.shared().expect_known(peek);
+        DrainFuture::new(self.clone(), peek)
+    }
+
+    /// Cancels each request whose deadline is over by this time, and hands over the values of those
+    /// that were listed; the holder of one that is taken learns of it
+    /// ([`OwnedRequest::cancelled_by`]). Also returns when the next one is due: for an event loop,
+    /// which then calls again.
+    ///
+    /// ```
+    /// # use csq::*;
+    /// # let queue = Requests::new(&Size::new(4, 2, 2))?;
+    /// # let pass = queue.owned_pass()?;
+    /// # use std::time::{Duration, Instant};
+    /// let due = Instant::now() + Duration::from_secs(60);
+    /// pass.submit_until("job", 0, Place::Back, due)?;
+    /// let (ended, next) = pass.cancel_due(Instant::now());
+    /// assert!(ended.is_empty() && next >= Some(due));
+    /// # Ok::<(), Box<dyn std::error::Error>>(())
+    /// ```
+    pub fn cancel_due(&self, now: Instant) -> (Vec<T>, Option<Instant>) {
+        self.shared().cancel_due(now)
+    }
+
+    /// Waits until requests that are listed are due, cancels them as [`OwnedPass::cancel_due`]
+    /// does, and hands over their values: for a thread that does nothing else. None once the queue
+    /// is shut down or dropped, and no request has a deadline any more.
+    ///
+    /// ```
+    /// # use csq::*;
+    /// # let queue = Requests::new(&Size::new(4, 2, 2))?;
+    /// # let pass = queue.owned_pass()?;
+    /// # use std::time::{Duration, Instant};
+    /// let clock = std::thread::spawn({
+    ///     let pass = pass.clone();
+    ///     move || std::iter::from_fn(|| pass.recv_due()).flatten().collect::<Vec<_>>()
+    /// });
+    /// pass.submit_until("job", 0, Place::Back, Instant::now() + Duration::from_millis(1))?;
+    /// pass.shutdown();
+    /// assert_eq!(clock.join().unwrap(), ["job"]);
+    /// # Ok::<(), Box<dyn std::error::Error>>(())
+    /// ```
+    pub fn recv_due(&self) -> Option<Vec<T>> {
+        self.shared().wait_due()
     }
 
     /// Shuts the queue down, as [`Requests::shutdown`](crate::Requests::shutdown) does.
@@ -278,176 +479,6 @@ impl<T> OwnedPass<T> {
     /// # Ok::<(), Box<dyn std::error::Error>>(())
     /// ```
     pub fn shutdown(&self) {
-        self.seat().shut_down();
-    }
-}
-
-/// A request that an [`OwnedPass`] took, with its value and a share of that pass. Dropped, it is
-/// completed with `STATUS_CANCELLED`, and its value dropped.
-///
-/// It borrows nothing: it may be kept in a struct, sent to another thread if its value may, and
-/// completed there.
-#[must_use = "a request that was taken has to be completed, and is where it is dropped"]
-pub struct OwnedRequest<T> {
-    taken: Taken<OwnedPass<T>>,
-}
-
-impl<T: fmt::Debug> fmt::Debug for OwnedRequest<T> {
-    fn fmt(&self, f: &mut fmt::Formatter<'_>) -> fmt::Result {
-        f.debug_tuple("OwnedRequest")
-            .field(&self.taken.value)
-            .finish()
-    }
-}
-
-impl<T> OwnedRequest<T> {
-    /// Its name.
-    ///
-    /// ```
-    /// # use csq::*;
-    /// # let queue = Requests::new(&Size::new(4, 2, 2))?;
-    /// # let pass = queue.owned_pass()?;
-    /// let id = pass.submit("job", 1, Place::Back)?;
-    /// assert_eq!(pass.recv(Peek::Any)?.id(), id);
-    /// # Ok::<(), Box<dyn std::error::Error>>(())
-    /// ```
-    pub fn id(&self) -> RequestId {
-        self.taken.id
-    }
-
-    /// The value.
-    ///
-    /// ```
-    /// # use csq::*;
-    /// # let queue = Requests::new(&Size::new(4, 2, 2))?;
-    /// # let pass = queue.owned_pass()?;
-    /// pass.submit("job", 1, Place::Back)?;
-    /// assert_eq!(pass.recv(Peek::Any)?.value(), &"job");
-    /// # Ok::<(), Box<dyn std::error::Error>>(())
-    /// ```
-    pub fn value(&self) -> &T {
-        &self.taken.value
-    }
-
-    /// The value, to be changed.
-    ///
-    /// ```
-    /// # use csq::*;
-    /// # let queue = Requests::new(&Size::new(4, 2, 2))?;
-    /// # let pass = queue.owned_pass()?;
-    /// pass.submit(1, 1, Place::Back)?;
-    /// let mut request = pass.recv(Peek::Any)?;
-    /// *request.value_mut() += 1;
-    /// assert_eq!(request.complete(), 2);
-    /// # Ok::<(), Box<dyn std::error::Error>>(())
-    /// ```
-    pub fn value_mut(&mut self) -> &mut T {
-        &mut self.taken.value
-    }
-
-    /// Whether a cancel named it and came too late, as
-    /// [`Request::is_cancelled`](crate::Request::is_cancelled) has it. Takes the lock.
-    ///
-    /// ```
-    /// # use csq::*;
-    /// # let queue = Requests::new(&Size::new(4, 2, 2))?;
-    /// # let pass = queue.owned_pass()?;
-    /// let id = pass.submit("job", 1, Place::Back)?;
-    /// let request = pass.recv(Peek::Any)?;
-    /// assert_eq!(pass.cancel(id), Err(Missed::Taken));
-    /// assert!(request.is_cancelled());
-    /// # Ok::<(), Box<dyn std::error::Error>>(())
-    /// ```
-    pub fn is_cancelled(&self) -> bool {
-        let _locked = self.taken.pass().seat().lock();
-        self.taken.is_cancelled()
-    }
-
-    /// Ends once a cancel has named the request ([`OwnedRequest::is_cancelled`]). Of one that is
-    /// completed before, it never ends.
-    ///
-    /// ```
-    /// # use csq::*;
-    /// # let queue = Requests::new(&Size::new(4, 2, 2))?;
-    /// # let pass = queue.owned_pass()?;
-    /// // For the `select!` of an executor, beside the work.
-    /// async fn until_cancelled(request: &OwnedRequest<u32>) {
-    ///     request.cancelled().await;
-    ///     assert!(request.is_cancelled());
-    /// }
-    /// # pass.submit(1, 0, Place::Back)?;
-    /// # drop(until_cancelled(&pass.recv(Peek::Any)?));
-    /// # Ok::<(), Box<dyn std::error::Error>>(())
-    /// ```
-    #[cfg(feature = "async")]
-    pub fn cancelled(&self) -> CancelledFuture<T> {
-        CancelledFuture::new(self.taken.pass().clone(), self.taken.id)
-    }
-
-    /// Completes the request with `STATUS_SUCCESS`, and hands its value over. Its IRP is free then.
-    /// Takes the lock.
-    ///
-    /// ```
-    /// # use csq::*;
-    /// # let queue = Requests::new(&Size::new(4, 2, 2))?;
-    /// # let pass = queue.owned_pass()?;
-    /// let id = pass.submit("job", 1, Place::Back)?;
-    /// assert_eq!(pass.recv(Peek::Any)?.complete(), "job");
-    /// assert_eq!(pass.cancel(id), Err(Missed::Completed));
-    /// # Ok::<(), Box<dyn std::error::Error>>(())
-    /// ```
-    pub fn complete(self) -> T {
-        self.taken.complete()
-    }
-
-    /// Puts the request back with its value, as [`Request::put_back`](crate::Request::put_back)
-    /// does.
-    ///
-    /// # Errors
-    ///
-    /// [`NotPutBack`], which hands the request back with its cause.
-    ///
-    /// ```
-    /// # use csq::*;
-    /// # let queue = Requests::new(&Size::new(4, 2, 2))?;
-    /// # let pass = queue.owned_pass()?;
-    /// pass.submit("job", 1, Place::Back)?;
-    /// let busy = pass.recv(Peek::Any)?;
-    /// assert_eq!(busy.put_back(Place::Front).unwrap(), PutBack::Pending);
-    /// assert_eq!(pass.recv(Peek::Any)?.complete(), "job");
-    /// # Ok::<(), Box<dyn std::error::Error>>(())
-    /// ```
-    pub fn put_back(self, place: Place) -> Result<PutBack<T>, NotPutBack<OwnedRequest<T>>> {
-        self.taken.put_back(place, |taken| OwnedRequest { taken })
-    }
-}
-
-// They call C, which miri doesn't run.
-#[cfg(all(test, not(miri)))]
-mod tests {
-    use super::*;
-    use crate::errors::Missed;
-    use crate::requests::Requests;
-    use crate::words::Size;
-    use std::thread;
-
-    /// While another thread has the lock, no call uses the pass.
-    #[test]
-    fn a_call_waits_for_the_lock() {
-        let queue = Requests::new(&Size::new(1, 1, 1)).unwrap();
-        let pass = queue.owned_pass().unwrap();
-        let id = pass.submit(7, 0, Place::Back).unwrap();
-        let request = pass.try_recv(Peek::Any).unwrap();
-        thread::scope(|scope| {
-            let locked = pass.seat().lock();
-            let cancels = scope.spawn(|| pass.cancel(id));
-            let looks = scope.spawn(|| request.is_cancelled());
-            thread::sleep(Duration::from_millis(20));
-            assert!(!pass.seat().is_cancelled(id) && !looks.is_finished());
-            drop(locked);
-            assert_eq!(cancels.join().unwrap(), Err(Missed::Taken));
-            looks.join().unwrap();
-        });
-        assert!(request.is_cancelled());
+        self.shared().with(State::shut_down);
     }
 }

@@ -1,14 +1,49 @@
 //! Passes of a queue of requests.
 
 use super::request::{Request, RequestId};
-use super::seat::{Seat, Through};
-use super::Shared;
-use crate::errors::{Missed, RecvError, RecvTimeoutError, Refused, TryRecvError, UnknownFile};
-use crate::pass::Pass;
+use super::shared::Shared;
+use super::state::{State, Submission};
+use crate::errors::{
+    Missed, PassError, RecvError, RecvTimeoutError, Refused, TryRecvError, UnknownFile,
+};
+use crate::ledger::Why;
 use crate::words::{Peek, Place};
+use std::cell::Cell;
 use std::fmt;
+use std::marker::PhantomData;
 use std::sync::Arc;
-use std::time::Duration;
+use std::time::{Duration, Instant};
+
+/// A pass's share of its queue, which counts it while it is out.
+pub(super) struct Share<T>(Arc<Shared<T>>);
+
+impl<T> Share<T> {
+    pub(super) fn of(shared: &Arc<Shared<T>>) -> Result<Share<T>, PassError> {
+        shared.with(State::take_pass)?;
+        Ok(Share(Arc::clone(shared)))
+    }
+}
+
+impl<T> Drop for Share<T> {
+    fn drop(&mut self) {
+        self.0.with(State::give_pass_back);
+    }
+}
+
+/// What a request is taken through.
+pub(super) trait Through {
+    type Value;
+
+    fn shared(&self) -> &Shared<Self::Value>;
+}
+
+impl<T> Through for Share<T> {
+    type Value = T;
+
+    fn shared(&self) -> &Shared<T> {
+        &self.0
+    }
+}
 
 /// A pass of a queue of requests, through which one thread at a time makes its calls. It has a
 /// share of its queue.
@@ -16,7 +51,9 @@ use std::time::Duration;
 /// It may be moved to another thread, but not be shared by two ([`OwnedPass`](crate::OwnedPass)
 /// is). Dropped, it is given back.
 pub struct RequestPass<T> {
-    seat: Seat<T>,
+    share: Share<T>,
+    // Its requests borrow it and stay in its thread.
+    one_thread: PhantomData<Cell<T>>,
 }
 
 impl<T> fmt::Debug for RequestPass<T> {
@@ -28,16 +65,21 @@ impl<T> fmt::Debug for RequestPass<T> {
 impl<T> Through for &RequestPass<T> {
     type Value = T;
 
-    fn seat(&self) -> &Seat<T> {
-        &self.seat
+    fn shared(&self) -> &Shared<T> {
+        self.share.shared()
     }
 }
 
 impl<T> RequestPass<T> {
-    /// The pass is of the queue whose share this is.
-    pub(super) fn new(shared: Arc<Shared<T>>, pass: Pass) -> RequestPass<T> {
-        let seat = Seat::new(shared, pass);
-        RequestPass { seat }
+    pub(super) fn of(share: Share<T>) -> RequestPass<T> {
+        RequestPass {
+            share,
+            one_thread: PhantomData,
+        }
+    }
+
+    fn shared(&self) -> &Shared<T> {
+        self.share.shared()
     }
 
     /// Submits a value for a file object. The result names the request to a cancel. One that waits
@@ -57,7 +99,86 @@ impl<T> RequestPass<T> {
     /// # Ok::<(), Box<dyn std::error::Error>>(())
     /// ```
     pub fn submit(&self, value: T, file: u32, place: Place) -> Result<RequestId, Refused<T>> {
-        self.seat.submit(value, file, place)
+        let due = None;
+        self.shared().submit(Submission {
+            value,
+            file,
+            place,
+            due,
+        })
+    }
+
+    /// [`RequestPass::submit`], which waits for room at most this long where it would return
+    /// [`SubmitError::NoIrp`](crate::SubmitError::NoIrp),
+    /// [`SubmitError::FileFull`](crate::SubmitError::FileFull) or
+    /// [`SubmitError::Full`](crate::SubmitError::Full). Each request that ends or is taken, a
+    /// cleanup and the shutdown wake those who wait. Those who wait for the same are woken in their
+    /// order, but a submit that comes meanwhile may be faster.
+    ///
+    /// # Errors
+    ///
+    /// [`SubmitError`](crate::SubmitError) in a [`Refused`], which hands the value back.
+    ///
+    /// ```
+    /// # use csq::*;
+    /// # let queue = Requests::new(&Size::new(1, 1, 2))?;
+    /// # let pass = queue.pass()?;
+    /// # use std::time::Duration;
+    /// pass.submit_timeout("first", 0, Place::Back, Duration::from_secs(60))?;
+    /// let full = pass.submit_timeout("second", 0, Place::Back, Duration::from_millis(1));
+    /// assert_eq!(full.unwrap_err().into_value(), "second");
+    /// # Ok::<(), Box<dyn std::error::Error>>(())
+    /// ```
+    pub fn submit_timeout(
+        &self,
+        value: T,
+        file: u32,
+        place: Place,
+        limit: Duration,
+    ) -> Result<RequestId, Refused<T>> {
+        let due = None;
+        let it = Submission {
+            value,
+            file,
+            place,
+            due,
+        };
+        self.shared().submit_waiting(it, limit)
+    }
+
+    /// [`RequestPass::submit`] with a deadline: when it is over, the request is cancelled, once
+    /// somebody looks for it ([`OwnedPass::cancel_due`](crate::OwnedPass::cancel_due),
+    /// [`OwnedPass::recv_due`](crate::OwnedPass::recv_due)). A deadline is kept to the millisecond
+    /// after it.
+    ///
+    /// # Errors
+    ///
+    /// [`SubmitError`](crate::SubmitError) in a [`Refused`], which hands the value back.
+    ///
+    /// ```
+    /// # use csq::*;
+    /// # let queue = Requests::new(&Size::new(4, 2, 2))?;
+    /// # let pass = queue.pass()?;
+    /// # use std::time::{Duration, Instant};
+    /// let due = Instant::now() + Duration::from_secs(60);
+    /// pass.submit_until("job", 0, Place::Back, due)?;
+    /// assert_eq!(pass.recv(Peek::Any)?.complete(), "job");
+    /// # Ok::<(), Box<dyn std::error::Error>>(())
+    /// ```
+    pub fn submit_until(
+        &self,
+        value: T,
+        file: u32,
+        place: Place,
+        due: Instant,
+    ) -> Result<RequestId, Refused<T>> {
+        let due = Some(self.shared().due_at(due));
+        self.shared().submit(Submission {
+            value,
+            file,
+            place,
+            due,
+        })
     }
 
     /// Takes the first listed request of a file object, or of any, that no canceller has. Takes the
@@ -93,7 +214,7 @@ impl<T> RequestPass<T> {
     /// # Ok::<(), Box<dyn std::error::Error>>(())
     /// ```
     pub fn try_recv(&self, peek: Peek) -> Result<Request<'_, T>, TryRecvError> {
-        let taken = self.seat.try_take(peek)?;
+        let taken = self.shared().try_take(peek)?;
         Ok(Request::of(self, taken))
     }
 
@@ -117,7 +238,7 @@ impl<T> RequestPass<T> {
     /// # Ok::<(), Box<dyn std::error::Error>>(())
     /// ```
     pub fn recv(&self, peek: Peek) -> Result<Request<'_, T>, RecvError> {
-        let taken = self.seat.wait(peek, None).map_err(|_| RecvError)?;
+        let taken = self.shared().wait(peek, None).map_err(|_| RecvError)?;
         Ok(Request::of(self, taken))
     }
 
@@ -148,8 +269,39 @@ impl<T> RequestPass<T> {
         peek: Peek,
         limit: Duration,
     ) -> Result<Request<'_, T>, RecvTimeoutError> {
-        let taken = self.seat.wait(peek, Some(limit))?;
+        let taken = self.shared().wait(peek, Some(limit))?;
         Ok(Request::of(self, taken))
+    }
+
+    /// Takes a first request as [`RequestPass::recv`] does, and then more under one lock: at most
+    /// `most`, and at most its fair share, which is what is listed divided among this worker and
+    /// those who wait for the same.
+    ///
+    /// # Errors
+    ///
+    /// [`RecvError`]: the queue was shut down or dropped, and none is listed.
+    ///
+    /// # Panics
+    ///
+    /// There is no such file object, or `most` is 0.
+    ///
+    /// ```
+    /// # use csq::*;
+    /// # let queue = Requests::new(&Size::new(4, 2, 2))?;
+    /// # let pass = queue.pass()?;
+    /// for job in 0..4 {
+    ///     pass.submit(job, 0, Place::Back)?;
+    /// }
+    /// let batch = pass.recv_many(Peek::Any, 3)?;
+    /// assert_eq!(batch.into_iter().map(Request::complete).sum::<i32>(), 3);
+    /// # Ok::<(), Box<dyn std::error::Error>>(())
+    /// ```
+    pub fn recv_many(&self, peek: Peek, most: usize) -> Result<Vec<Request<'_, T>>, RecvError> {
+        assert!(most > 0, "a batch has one request or more");
+        let mut batch = vec![self.recv(peek)?];
+        let more = self.shared().take_more(peek, most - 1);
+        batch.extend(more.into_iter().map(|taken| Request::of(self, taken)));
+        Ok(batch)
     }
 
     /// Takes one request after the other by [`RequestPass::recv`], until it returns an error.
@@ -173,8 +325,7 @@ impl<T> RequestPass<T> {
     }
 
     /// Cancels a request, and hands its value over. Otherwise somebody else has the value, or had
-    /// it. Takes the lock only where the value is handed over; with the feature `async` also where
-    /// it is taken, to wake who waits for the cancel.
+    /// it. Takes the lock.
     ///
     /// # Errors
     ///
@@ -190,8 +341,7 @@ impl<T> RequestPass<T> {
     /// # Ok::<(), Box<dyn std::error::Error>>(())
     /// ```
     pub fn cancel(&self, request: RequestId) -> Result<T, Missed> {
-        let (seat, marked) = (&self.seat, self.seat.mark(request));
-        seat.cancel(request, marked, || seat.lock())
+        self.shared().cancel(request)
     }
 
     /// Closes a file object for good, then cancels each request that is listed for it, and hands
@@ -212,8 +362,8 @@ impl<T> RequestPass<T> {
     /// # Ok::<(), Box<dyn std::error::Error>>(())
     /// ```
     pub fn cleanup(&self, file: u32) -> Result<Vec<T>, UnknownFile> {
-        self.seat.close_file(file)?;
-        Ok(self.seat.cancel_listed(Peek::File(file)))
+        self.shared().close_file(file)?;
+        Ok(self.shared().end_listed(Peek::File(file), Why::Cleanup))
     }
 
     /// Cancels each request that is listed for a file object, or for any, and hands their values
@@ -237,8 +387,8 @@ impl<T> RequestPass<T> {
     /// # Ok::<(), Box<dyn std::error::Error>>(())
     /// ```
     pub fn drain(&self, peek: Peek) -> Result<Vec<T>, UnknownFile> {
-        self.seat.knows(peek)?;
-        Ok(self.seat.cancel_listed(peek))
+        self.shared().knows(peek)?;
+        Ok(self.shared().end_listed(peek, Why::Drain))
     }
 
     /// Shuts the queue down, as [`Requests::shutdown`](crate::Requests::shutdown) does.
@@ -253,6 +403,6 @@ impl<T> RequestPass<T> {
     /// # Ok::<(), Box<dyn std::error::Error>>(())
     /// ```
     pub fn shutdown(&self) {
-        self.seat.shut_down();
+        self.shared().with(State::shut_down);
     }
 }

@@ -1,8 +1,8 @@
 //! Requests by name, and those that a pass took.
 
-use super::pass::RequestPass;
-use super::seat::{Held, Through};
-use crate::errors::NotPutBack;
+use super::pass::{RequestPass, Through};
+use super::state::Held;
+use crate::errors::{CancelledBy, NotPutBack};
 use crate::words::{FinalStatus, Irp, Place};
 use std::fmt;
 
@@ -80,7 +80,7 @@ impl<'pass, T> Request<'pass, T> {
 
     /// Whether a cancel named it and came too late ([`Missed::Taken`](crate::Missed::Taken)):
     /// nobody waits for it, so it may be given up, and a put-back doesn't leave it to another
-    /// worker. Takes no lock.
+    /// worker. Takes the lock.
     ///
     /// ```
     /// # use csq::*;
@@ -93,7 +93,24 @@ impl<'pass, T> Request<'pass, T> {
     /// # Ok::<(), Box<dyn std::error::Error>>(())
     /// ```
     pub fn is_cancelled(&self) -> bool {
-        self.taken.is_cancelled()
+        self.cancelled_by().is_some()
+    }
+
+    /// What named it first, if anything did ([`Request::is_cancelled`]): a cancel, or its deadline.
+    ///
+    /// ```
+    /// # use csq::*;
+    /// # let queue = Requests::new(&Size::new(4, 2, 2))?;
+    /// # let pass = queue.pass()?;
+    /// let id = pass.submit("job", 1, Place::Back)?;
+    /// let request = pass.recv(Peek::Any)?;
+    /// assert_eq!(request.cancelled_by(), None);
+    /// assert_eq!(pass.cancel(id), Err(Missed::Taken));
+    /// assert_eq!(request.cancelled_by(), Some(CancelledBy::Caller));
+    /// # Ok::<(), Box<dyn std::error::Error>>(())
+    /// ```
+    pub fn cancelled_by(&self) -> Option<CancelledBy> {
+        self.taken.cancelled_by()
     }
 
     /// Completes the request with `STATUS_SUCCESS`, and hands its value over. Its IRP is free then.
@@ -163,7 +180,7 @@ pub(super) struct Taken<P: Through> {
 
 impl<P: Through> Taken<P> {
     pub(super) fn of(pass: P, held: Held, value: P::Value) -> Taken<P> {
-        let id = pass.seat().id(held.irp);
+        let id = pass.shared().id(held.irp);
         let hold = Hold {
             pass: Some(pass),
             held: Some(held),
@@ -175,13 +192,23 @@ impl<P: Through> Taken<P> {
         self.hold.pass.as_ref().expect("the pass until the end")
     }
 
-    pub(super) fn is_cancelled(&self) -> bool {
-        self.pass().seat().is_cancelled(self.id)
+    pub(super) fn cancelled_by(&self) -> Option<CancelledBy> {
+        self.pass().shared().cancelled_by(self.id)
     }
 
     pub(super) fn complete(mut self) -> P::Value {
         self.hold.complete(FinalStatus::SUCCESS);
         self.value
+    }
+
+    /// What it was taken through, what it holds, and the value. It is the caller's to complete.
+    pub(super) fn into_parts(self) -> (P, Held, P::Value) {
+        let Taken {
+            mut hold, value, ..
+        } = self;
+        let pass = hold.pass.take().expect("the pass until the end");
+        let held = hold.held.take().expect("a request that isn't completed");
+        (pass, held, value)
     }
 
     /// A refusal is of this again, which is made what it was.
@@ -190,13 +217,9 @@ impl<P: Through> Taken<P> {
         place: Place,
         again: impl FnOnce(Taken<P>) -> R,
     ) -> Result<PutBack<P::Value>, NotPutBack<R>> {
-        let Taken {
-            mut hold, value, ..
-        } = self;
-        let pass = hold.pass.take().expect("the pass until the end");
-        let held = hold.held.take().expect("a request that isn't completed");
-        let refused = pass.seat().put_back(held, value, place);
-        refused.map_err(|(cause, held, value)| NotPutBack {
+        let (pass, held, value) = self.into_parts();
+        let refused = pass.shared().put_back(held, value, place);
+        refused.map_err(|(cause, value)| NotPutBack {
             held: again(Taken::of(pass, held, value)),
             cause,
         })
@@ -212,7 +235,7 @@ struct Hold<P: Through> {
 impl<P: Through> Hold<P> {
     fn complete(&mut self, status: FinalStatus) {
         if let (Some(pass), Some(held)) = (&self.pass, self.held.take()) {
-            pass.seat().complete(held, status);
+            pass.shared().complete(held, status);
         }
     }
 }

@@ -1,8 +1,7 @@
-//! Who waits for a request, and is woken when one comes.
+//! Those who wait at a queue of requests, and are woken.
 
-#[cfg(feature = "async")]
-use crate::words::Irp;
-use crate::words::Peek;
+use crate::ledger::Ended;
+use crate::words::{Irp, Peek};
 use std::collections::BTreeMap;
 use std::sync::Arc;
 use std::task::{Wake, Waker};
@@ -17,123 +16,187 @@ impl Ticket {
     const LAST: Ticket = Ticket(u64::MAX);
 }
 
-/// Those who wait, for each thing the first of them first. The queue's lock guards it. No call
-/// looks through all of them.
+/// Those who wait for events of one kind, for each event the first of them first. No call but
+/// `take_all` looks through all of them.
 ///
-/// One that waits has found no match, and is taken out when it is woken. A request wakes one of
-/// those who wait for any, and one of those who wait for its file object. So of those who wait for
-/// the same, as long as any does, at least as many were woken and have not looked yet as there are
-/// requests for them. One that is woken and doesn't look has to pass it on.
-#[derive(Default)]
-pub(crate) struct Waiting {
-    /// By the file object, or none for any.
-    waiters: BTreeMap<(Option<u32>, Ticket), Waker>,
+/// One that waits has found nothing, and is taken out when it is woken. Each event wakes one of
+/// those who wait for just it. So as long as any waits for an event, at least as many were woken
+/// and have not looked yet as there is for them. One that is woken and makes no use of it has to
+/// pass it on.
+pub(crate) struct Waiters<K> {
+    wakers: BTreeMap<(K, Ticket), Waker>,
     tickets: u64,
-    /// Whether the queue was shut down, so that submits are refused.
-    pub(crate) shut: bool,
-    /// Whether nobody waits any more, since the queue was shut down or dropped.
-    pub(crate) ended: bool,
-    /// Those who wait for the cancel of an IRP that was taken.
-    #[cfg(feature = "async")]
-    watchers: BTreeMap<(Irp, Ticket), Waker>,
 }
 
-fn file_of(peek: Peek) -> Option<u32> {
+impl<K> Default for Waiters<K> {
+    fn default() -> Waiters<K> {
+        Waiters {
+            wakers: BTreeMap::new(),
+            tickets: 0,
+        }
+    }
+}
+
+impl<K: Ord + Copy> Waiters<K> {
+    /// Adds one who waits for this.
+    pub(crate) fn add(&mut self, event: K, waker: Waker) -> Ticket {
+        self.tickets += 1;
+        let ticket = Ticket(self.tickets);
+        self.wakers.insert((event, ticket), waker);
+        ticket
+    }
+
+    /// Takes one out that waits for this and wasn't woken. The caller drops the waker once the lock
+    /// is free.
+    pub(crate) fn remove(&mut self, event: K, ticket: Ticket) -> Option<Waker> {
+        self.wakers.remove(&(event, ticket))
+    }
+
+    fn those(&self, event: K) -> impl Iterator<Item = (K, Ticket)> + '_ {
+        let those = (event, Ticket::FIRST)..=(event, Ticket::LAST);
+        self.wakers.range(those).map(|(key, _)| *key)
+    }
+
+    /// How many wait for just this.
+    pub(crate) fn count(&self, event: K) -> usize {
+        self.those(event).count()
+    }
+
+    /// Takes the first out that waits for just this.
+    pub(crate) fn take_first(&mut self, event: K) -> Option<Waker> {
+        let first = self.those(event).next()?;
+        self.wakers.remove(&first)
+    }
+
+    // All that wait for just this.
+    fn take_those(&mut self, event: K) -> impl Iterator<Item = Waker> + '_ {
+        std::iter::from_fn(move || self.take_first(event))
+    }
+
+    fn take_all(&mut self) -> impl Iterator<Item = Waker> {
+        std::mem::take(&mut self.wakers).into_values()
+    }
+
+    #[inline]
+    fn is_empty(&self) -> bool {
+        self.wakers.is_empty()
+    }
+}
+
+/// What a peek waits for: a file object, or none for any.
+pub(crate) fn file_of(peek: Peek) -> Option<u32> {
     match peek {
         Peek::Any => None,
         Peek::File(file) => Some(file),
     }
 }
 
-/// Takes the first one out that waits for just this.
-fn take_first_of<K: Ord + Copy>(
-    waiters: &mut BTreeMap<(K, Ticket), Waker>,
-    of: K,
-) -> Option<Waker> {
-    let mut those = waiters.range((of, Ticket::FIRST)..=(of, Ticket::LAST));
-    let first = *those.next()?.0;
-    waiters.remove(&first)
+/// Those who wait at a queue of requests. The queue's lock guards it.
+#[derive(Default)]
+pub(crate) struct Waiting {
+    /// For a request that is listed for this file object, or for any.
+    pub(crate) listed: Waiters<Option<u32>>,
+    /// For room in the list of this file object, or for a further request at all.
+    pub(crate) room: Waiters<Option<u32>>,
+    /// Until none of this file object is under way, or none at all; they look again at what is
+    /// listed.
+    pub(crate) quiet: Waiters<Option<u32>>,
+    /// Until the next request is due, or another one is to be due next.
+    pub(crate) clock: Waiters<()>,
+    /// For a cancel of this request, or the end of its time.
+    pub(crate) cancel: Waiters<Irp>,
+    /// Whether nobody waits for a request, for room or for a time any more, since the queue was
+    /// shut down or dropped.
+    pub(crate) ended: bool,
+    /// Those who are woken once the lock is free.
+    pub(crate) woken: Vec<Waker>,
 }
 
 impl Waiting {
-    /// Adds one who waits for what this peek takes.
-    pub(crate) fn add(&mut self, peek: Peek, waker: Waker) -> Ticket {
-        let ticket = self.new_ticket();
-        self.waiters.insert((file_of(peek), ticket), waker);
-        ticket
-    }
-
-    fn new_ticket(&mut self) -> Ticket {
-        self.tickets += 1;
-        Ticket(self.tickets)
-    }
-
-    /// Takes one out that waits for this and wasn't woken. The caller drops the waker once the lock
-    /// is free.
-    pub(crate) fn remove(&mut self, peek: Peek, ticket: Ticket) -> Option<Waker> {
-        self.waiters.remove(&(file_of(peek), ticket))
-    }
-
-    /// Takes the first one out that waits for just this.
-    pub(crate) fn take_first(&mut self, peek: Peek) -> Option<Waker> {
-        take_first_of(&mut self.waiters, file_of(peek))
-    }
-
-    /// Takes those out whom a request for this file object wakes.
+    /// A request of this file object is listed, for the first time or again.
     #[inline]
-    pub(crate) fn take_for(&mut self, file: u32) -> Woken {
-        if self.waiters.is_empty() {
-            return Woken(None, None);
+    pub(crate) fn was_listed(&mut self, file: u32) {
+        if !self.listed.is_empty() {
+            self.woken.extend(self.listed.take_first(None));
+            self.woken.extend(self.listed.take_first(Some(file)));
         }
-        Woken(
-            self.take_first(Peek::Any),
-            self.take_first(Peek::File(file)),
-        )
+        if !self.quiet.is_empty() {
+            self.wake_drains(file);
+        }
     }
 
-    /// Shuts the queue down, and takes all out.
-    pub(crate) fn shut_down(&mut self) -> Vec<Waker> {
-        self.shut = true;
-        self.end()
+    #[cold]
+    fn wake_drains(&mut self, file: u32) {
+        self.woken.extend(self.quiet.take_those(Some(file)));
+        self.woken.extend(self.quiet.take_those(None));
     }
 
-    /// Ends all waits, and takes all out.
-    pub(crate) fn end(&mut self) -> Vec<Waker> {
-        self.ended = true;
-        std::mem::take(&mut self.waiters).into_values().collect()
-    }
-}
-
-#[cfg(feature = "async")]
-impl Waiting {
-    /// Adds one who waits for a cancel of this IRP, in its life.
-    pub(crate) fn watch(&mut self, irp: Irp, waker: Waker) -> Ticket {
-        let ticket = self.new_ticket();
-        self.watchers.insert((irp, ticket), waker);
-        ticket
-    }
-
-    /// Takes one out that waits for this and wasn't woken. The caller drops the waker once the lock
-    /// is free.
-    pub(crate) fn unwatch(&mut self, irp: Irp, ticket: Ticket) -> Option<Waker> {
-        self.watchers.remove(&(irp, ticket))
-    }
-
-    /// Takes those out who wait for a cancel of this IRP, in its life.
-    pub(crate) fn take_watchers(&mut self, irp: Irp) -> Vec<Waker> {
-        std::iter::from_fn(|| take_first_of(&mut self.watchers, irp)).collect()
-    }
-}
-
-/// Those whom a request wakes.
-#[must_use = "they are woken once the lock is free"]
-pub(crate) struct Woken(Option<Waker>, Option<Waker>);
-
-impl Woken {
-    /// Wakes them. The lock is free.
+    /// A request of this file object isn't listed any more.
     #[inline]
-    pub(crate) fn wake(self) {
-        [self.0, self.1].into_iter().flatten().for_each(Waker::wake);
+    pub(crate) fn was_unlisted(&mut self, file: u32) {
+        if !self.room.is_empty() {
+            self.woken.extend(self.room.take_first(Some(file)));
+            self.woken.extend(self.room.take_first(None));
+        }
+    }
+
+    /// A request has ended.
+    #[inline]
+    pub(crate) fn ended(&mut self, ended: Ended) {
+        if !self.room.is_empty() {
+            self.woken.extend(self.room.take_first(None));
+        }
+        if !self.quiet.is_empty() {
+            self.wake_quiet(ended);
+        }
+        if !self.clock.is_empty() {
+            // It may have been the one that was due next.
+            self.wake_clocks();
+        }
+    }
+
+    #[cold]
+    fn wake_quiet(&mut self, ended: Ended) {
+        if ended.file_is_quiet {
+            self.woken.extend(self.quiet.take_those(Some(ended.file)));
+        }
+        if ended.all_are_quiet {
+            self.woken.extend(self.quiet.take_those(None));
+        }
+    }
+
+    /// Wakes the next that waits for this room.
+    pub(crate) fn pass_room_on(&mut self, room: Option<u32>) {
+        self.woken.extend(self.room.take_first(room));
+    }
+
+    /// Wakes the next that waits for a request of this file object, or for any.
+    pub(crate) fn pass_request_on(&mut self, file: Option<u32>) {
+        self.woken.extend(self.listed.take_first(file));
+    }
+
+    /// Wakes those who wait until a request is due.
+    pub(crate) fn wake_clocks(&mut self) {
+        self.woken.extend(self.clock.take_all());
+    }
+
+    /// Wakes those who wait for a cancel of this request.
+    pub(crate) fn wake_watchers(&mut self, irp: Irp) {
+        self.woken.extend(self.cancel.take_those(irp));
+    }
+
+    /// Wakes each submit that waits for room and may be for this file object.
+    pub(crate) fn wake_for_room(&mut self, file: u32) {
+        self.woken.extend(self.room.take_those(Some(file)));
+        self.woken.extend(self.room.take_those(None));
+    }
+
+    /// Ends all waits for a request, for room and for a time.
+    pub(crate) fn end(&mut self) {
+        self.ended = true;
+        self.woken.extend(self.listed.take_all());
+        self.woken.extend(self.room.take_all());
+        self.wake_clocks();
     }
 }
 
@@ -164,68 +227,93 @@ mod tests {
         }
     }
 
+    type Counted<const N: usize> = [(Ticket, Arc<Count>); N];
+
     // Those who wait for these, each with a count of its wakes.
-    fn waiting_for<const N: usize>(peeks: [Peek; N]) -> (Waiting, [(Ticket, Arc<Count>); N]) {
-        let mut waiting = Waiting::default();
-        let waiters = peeks.map(|peek| {
+    fn add<K: Ord + Copy, const N: usize>(waiters: &mut Waiters<K>, events: [K; N]) -> Counted<N> {
+        events.map(|event| {
             let count = Arc::<Count>::default();
-            (waiting.add(peek, Arc::clone(&count).into()), count)
-        });
-        (waiting, waiters)
+            (waiters.add(event, Arc::clone(&count).into()), count)
+        })
     }
 
-    fn wakes<const N: usize>(waiters: &[(Ticket, Arc<Count>); N]) -> Vec<u32> {
-        waiters
-            .iter()
-            .map(|(_, count)| count.0.load(SeqCst))
-            .collect()
+    fn wakes<const N: usize>(waiting: &mut Waiting, waiters: &Counted<N>) -> [u32; N] {
+        waiting.woken.drain(..).for_each(Waker::wake);
+        std::array::from_fn(|at| waiters[at].1 .0.load(SeqCst))
     }
 
     #[test]
     fn a_request_wakes_one_of_each_kind_the_first_first() {
-        let peeks = [
-            Peek::File(1),
-            Peek::Any,
-            Peek::File(0),
-            Peek::Any,
-            Peek::File(0),
-        ];
-        let (mut waiting, waiters) = waiting_for(peeks);
-        waiting.take_for(0).wake();
-        assert_eq!(wakes(&waiters), [0, 1, 1, 0, 0]);
-        waiting.take_for(2).wake();
-        assert_eq!(wakes(&waiters), [0, 1, 1, 1, 0]);
-        waiting.take_for(0).wake();
-        assert_eq!(wakes(&waiters), [0, 1, 1, 1, 1]);
-        waiting.take_for(0).wake();
-        waiting.take_for(1).wake();
-        assert_eq!(wakes(&waiters), [1, 1, 1, 1, 1]);
+        let mut waiting = Waiting::default();
+        let events = [Some(1), None, Some(0), None, Some(0)];
+        let waiters = add(&mut waiting.listed, events);
+        for (file, expected) in [
+            (0, [0, 1, 1, 0, 0]),
+            (2, [0, 1, 1, 1, 0]),
+            (0, [0, 1, 1, 1, 1]),
+            (0, [0, 1, 1, 1, 1]),
+            (1, [1, 1, 1, 1, 1]),
+        ] {
+            waiting.was_listed(file);
+            assert_eq!(wakes(&mut waiting, &waiters), expected);
+        }
     }
 
     #[test]
     fn one_that_gives_up_is_not_woken() {
-        let (mut waiting, waiters) = waiting_for([Peek::Any, Peek::Any]);
-        assert!(waiting.remove(Peek::Any, waiters[0].0).is_some());
-        assert!(waiting.remove(Peek::Any, waiters[0].0).is_none());
-        waiting.take_for(0).wake();
-        assert!(waiting.remove(Peek::Any, waiters[1].0).is_none());
-        assert_eq!(wakes(&waiters), [0, 1]);
+        let mut waiting = Waiting::default();
+        let waiters = add(&mut waiting.listed, [None, None]);
+        assert!(waiting.listed.remove(None, waiters[0].0).is_some());
+        assert!(waiting.listed.remove(None, waiters[0].0).is_none());
+        waiting.was_listed(0);
+        assert!(waiting.listed.remove(None, waiters[1].0).is_none());
+        assert_eq!(wakes(&mut waiting, &waiters), [0, 1]);
     }
 
     #[test]
-    fn a_shutdown_wakes_all() {
-        let (mut waiting, waiters) = waiting_for([Peek::Any, Peek::File(7)]);
-        assert!(!waiting.shut && !waiting.ended);
-        waiting.shut_down().into_iter().for_each(Waker::wake);
-        assert!(waiting.shut && waiting.ended);
-        assert_eq!(wakes(&waiters), [1, 1]);
+    fn an_end_wakes_those_who_wait_for_requests_room_and_times() {
+        let mut waiting = Waiting::default();
+        let irp = Irp { irp: 0, life: 0 };
+        let ends = (
+            add(&mut waiting.listed, [Some(7), None]),
+            add(&mut waiting.room, [None]),
+            add(&mut waiting.clock, [()]),
+        );
+        let stays = (
+            add(&mut waiting.quiet, [None]),
+            add(&mut waiting.cancel, [irp]),
+        );
+        waiting.end();
+        assert!(waiting.ended);
+        assert_eq!(wakes(&mut waiting, &ends.0), [1, 1]);
+        assert_eq!(wakes(&mut waiting, &ends.1), [1]);
+        assert_eq!(wakes(&mut waiting, &ends.2), [1]);
+        assert_eq!(wakes(&mut waiting, &stays.0), [0]);
+        assert_eq!(wakes(&mut waiting, &stays.1), [0]);
+        waiting.wake_watchers(irp);
+        assert_eq!(wakes(&mut waiting, &stays.1), [1]);
     }
 
     #[test]
-    fn an_end_wakes_all_and_refuses_nothing() {
-        let (mut waiting, waiters) = waiting_for([Peek::File(7), Peek::Any]);
-        waiting.end().into_iter().for_each(Waker::wake);
-        assert!(waiting.ended && !waiting.shut);
-        assert_eq!(wakes(&waiters), [1, 1]);
+    fn an_end_of_a_request_wakes_for_room_and_quiet() {
+        let mut waiting = Waiting::default();
+        let rooms = add(&mut waiting.room, [None, Some(1)]);
+        let quiets = add(&mut waiting.quiet, [Some(1), Some(1), None]);
+        let mut ended = Ended {
+            file: 1,
+            file_is_quiet: false,
+            all_are_quiet: false,
+        };
+        waiting.ended(ended);
+        assert_eq!(wakes(&mut waiting, &rooms), [1, 0]);
+        assert_eq!(wakes(&mut waiting, &quiets), [0, 0, 0]);
+        ended.file_is_quiet = true;
+        waiting.ended(ended);
+        assert_eq!(wakes(&mut waiting, &quiets), [1, 1, 0]);
+        waiting.was_unlisted(1);
+        assert_eq!(wakes(&mut waiting, &rooms), [1, 1]);
+        // A drain looks again at what is listed for it.
+        waiting.was_listed(0);
+        assert_eq!(wakes(&mut waiting, &quiets), [1, 1, 1]);
     }
 }

@@ -1,0 +1,204 @@
+//! Deadlines, room and batches in threads, whose waits end.
+use csq::*;
+use std::future::Future;
+use std::pin::Pin;
+use std::sync::atomic::{AtomicBool, AtomicU32, Ordering::SeqCst};
+use std::sync::Arc;
+use std::task::{Context, Wake, Waker};
+use std::thread;
+use std::time::{Duration, Instant};
+
+const LONG: Duration = Duration::from_secs(600);
+
+/// Waits for this, which another thread brings about.
+fn until(what: impl Fn() -> bool) {
+    let start = Instant::now();
+    while !what() {
+        assert!(start.elapsed() < Duration::from_secs(60), "it doesn't come");
+        thread::yield_now();
+    }
+}
+
+#[derive(Default)]
+struct Woken(AtomicBool);
+
+impl Wake for Woken {
+    fn wake(self: Arc<Self>) {
+        self.0.store(true, SeqCst);
+    }
+}
+
+#[test]
+fn the_holder_of_a_request_learns_that_it_is_due() {
+    let queue = Requests::new(&Size::new(2, 1, 1)).unwrap();
+    let pass = queue.owned_pass().unwrap();
+    let due = Instant::now();
+    pass.submit_until(1, 0, Place::Back, due).unwrap();
+    let request = pass.recv(Peek::Any).unwrap();
+    let woken = Arc::new(Woken::default());
+    let waker = Waker::from(Arc::clone(&woken));
+    let mut cancelled = request.cancelled();
+    let mut poll = || Pin::new(&mut cancelled).poll(&mut Context::from_waker(&waker));
+    assert!(poll().is_pending());
+    let later = due + Duration::from_millis(1);
+    assert_eq!(pass.cancel_due(later), (Vec::new(), None));
+    assert!(woken.0.load(SeqCst) && poll().is_ready());
+    assert_eq!(request.cancelled_by(), Some(CancelledBy::Deadline));
+    assert_eq!(
+        request.put_back(Place::Back).unwrap(),
+        PutBack::Cancelled(1)
+    );
+}
+
+/// What `recv_due` hands over until it returns none.
+fn clock(pass: &OwnedPass<u32>) -> thread::JoinHandle<Vec<u32>> {
+    let pass = pass.clone();
+    thread::spawn(move || std::iter::from_fn(|| pass.recv_due()).flatten().collect())
+}
+
+#[test]
+fn a_clock_looks_again_if_an_earlier_deadline_comes() {
+    let queue = Requests::new(&Size::new(4, 1, 1)).unwrap();
+    let pass = queue.owned_pass().unwrap();
+    let far = pass
+        .submit_until(1, 0, Place::Back, Instant::now() + LONG)
+        .unwrap();
+    let clock = clock(&pass);
+    thread::sleep(Duration::from_millis(20));
+    let soon = Instant::now() + Duration::from_millis(2);
+    pass.submit_until(2, 0, Place::Back, soon).unwrap();
+    until(|| queue.len() == 1);
+    // It goes on after the shutdown, for as long as there is a deadline.
+    pass.shutdown();
+    thread::sleep(Duration::from_millis(20));
+    assert!(!clock.is_finished());
+    assert_eq!(pass.cancel(far), Ok(1));
+    until(|| clock.is_finished());
+    assert_eq!(clock.join().unwrap(), [2]);
+}
+
+#[test]
+fn a_batch_leaves_their_share_to_those_who_wait() {
+    let queue = Requests::new(&Size::new(8, 1, 1)).unwrap();
+    let pass = queue.owned_pass().unwrap();
+    let waker = Waker::from(Arc::<Woken>::default());
+    let mut context = Context::from_waker(&waker);
+    let mut sleepers = [(); 4].map(|()| pass.recv_async(Peek::Any));
+    for sleeper in &mut sleepers {
+        assert!(Pin::new(sleeper).poll(&mut context).is_pending());
+    }
+    for value in 0..3 {
+        pass.submit(value, 0, Place::Back).unwrap();
+    }
+    // Three were woken, and one sleeps: of the two after the first one is left to it.
+    let batch = pass.recv_many(Peek::Any, 9).unwrap();
+    assert_eq!(OwnedRequest::complete_all(batch), [0, 1]);
+    // Those who wait for something else have no share.
+    drop(sleepers);
+    let mut other = pass.recv_async(Peek::File(0));
+    drop(pass.drain(Peek::Any));
+    assert!(Pin::new(&mut other).poll(&mut context).is_pending());
+    for value in 0..4 {
+        pass.submit(value, 0, Place::Back).unwrap();
+    }
+    assert_eq!(pass.recv_many(Peek::Any, 3).unwrap().len(), 3);
+    assert_eq!(pass.recv_many(Peek::Any, 3).unwrap().len(), 1);
+}
+
+#[test]
+fn a_submit_waits_for_room_and_ends_with_the_queue() {
+    let queue = Requests::new(&Size::new(1, 1, 2)).unwrap();
+    let pass = queue.owned_pass().unwrap();
+    pass.submit(1, 0, Place::Back).unwrap();
+    let waits = |value| {
+        let pass = pass.clone();
+        thread::spawn(move || pass.submit_timeout(value, 0, Place::Back, LONG))
+    };
+    let first = waits(2);
+    thread::sleep(Duration::from_millis(20));
+    assert!(!first.is_finished());
+    assert_eq!(pass.recv(Peek::Any).unwrap().complete(), 1);
+    assert!(first.join().unwrap().is_ok());
+    let second = waits(3);
+    thread::sleep(Duration::from_millis(20));
+    drop(queue);
+    let refused = second.join().unwrap().unwrap_err();
+    assert_eq!(
+        (refused.cause, refused.into_value()),
+        (SubmitError::NoIrp, 3)
+    );
+}
+
+#[test]
+fn what_was_forgotten_ends_with_its_queue() {
+    let queue = Requests::new(&Size::new(3, 1, 1)).unwrap();
+    let pass = queue.pass().unwrap();
+    for value in 0..3 {
+        pass.submit(value, 0, Place::Back).unwrap();
+    }
+    std::mem::forget(pass.next(Peek::Any));
+    std::mem::forget(pass.next(Peek::Any));
+    drop(pass);
+    assert_eq!(queue.close().unwrap(), [2]);
+}
+
+/// Submitters wait for room, workers take batches and put back, some requests are due or cancelled:
+/// each value comes out once.
+#[test]
+fn each_value_comes_out_once() {
+    const EACH: u32 = 4_000;
+    let queue = Requests::with_file_limits(&Size::new(8, 2, 1), &[3, 8]).unwrap();
+    let pass = queue.owned_pass().unwrap();
+    let outs: Vec<AtomicU32> = (0..3 * EACH).map(|_| AtomicU32::new(0)).collect();
+    let out = |value: u32| assert_eq!(outs[value as usize].fetch_add(1, SeqCst), 0);
+    thread::scope(|scope| {
+        for worker in 0..2 {
+            let (pass, out) = (pass.clone(), &out);
+            scope.spawn(move || {
+                while let Ok(batch) = pass.recv_many(Peek::Any, 1 + worker) {
+                    OwnedRequest::complete_all(batch).into_iter().for_each(out);
+                    if let Ok(request) = pass.try_recv(Peek::File(0)) {
+                        match request.put_back(Place::Front) {
+                            Ok(PutBack::Pending) => (),
+                            Ok(PutBack::Cancelled(value)) => out(value),
+                            Err(refused) => out(refused.held.complete()),
+                        }
+                    }
+                }
+            });
+        }
+        let (clock, out) = (pass.clone(), &out);
+        scope.spawn(move || {
+            std::iter::from_fn(|| clock.recv_due())
+                .flatten()
+                .for_each(out);
+        });
+        let submitters = [0, 1, 2].map(|by| {
+            let pass = pass.clone();
+            scope.spawn(move || {
+                for value in by * EACH..(by + 1) * EACH {
+                    let file = value % 2;
+                    let id = match value % 3 {
+                        0 => pass.submit_until(value, file, Place::Back, Instant::now()),
+                        _ => pass.submit_timeout(value, file, Place::Back, LONG),
+                    };
+                    match id {
+                        Ok(id) if value % 5 == 0 => drop(pass.cancel(id).map(out)),
+                        Ok(_) => (),
+                        Err(refused) => {
+                            assert!(refused.cause != SubmitError::ShutDown);
+                            out(refused.into_value());
+                        }
+                    }
+                }
+            })
+        });
+        for thread in submitters {
+            thread.join().unwrap();
+        }
+        pass.shutdown();
+    });
+    drop(pass);
+    queue.close().unwrap().into_iter().for_each(out);
+    assert!(outs.iter().all(|count| count.load(SeqCst) == 1));
+}
