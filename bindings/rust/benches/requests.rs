@@ -1,13 +1,17 @@
-//! What a job costs through a queue of requests: beside the bare cycle of its queue in one thread,
-//! and beside std's `sync_channel` of as many places with one submitter and several workers. Each
-//! row is the median of seven runs.
+//! What a job costs through a queue of requests: in one thread beside the bare cycle of its queue,
+//! and beside a job that can be cancelled over std's `sync_channel` of as many places, also with one
+//! submitter and several workers. Each row is the median of seven turns, in each of which all of
+//! the row run.
 //!
 //! `cargo bench`, with `CSQ_LIBRARY` or a feature that links the library.
-use csq::{FinalStatus, Inserted, Irp, List, Peek, Place, Queue, Requests, Size, SubmitError};
-use std::sync::atomic::{AtomicU64, Ordering::Relaxed};
-use std::sync::{mpsc, Mutex};
+use csq::{FinalStatus, Inserted, Irp, List, Peek, Place, Queue, Requests, Size};
+use std::sync::atomic::{
+    AtomicBool, AtomicU64,
+    Ordering::{Relaxed, SeqCst},
+};
+use std::sync::{mpsc, Arc, Mutex};
 use std::thread;
-use std::time::Instant;
+use std::time::{Duration, Instant};
 
 const JOBS: u64 = 200_000;
 const PLACES: u32 = 1024;
@@ -22,17 +26,20 @@ fn size(passes: u32) -> Size {
     }
 }
 
-/// Nanoseconds a job: the median of the runs.
-fn median(mut run: impl FnMut()) -> f64 {
-    let mut times: Vec<f64> = (0..RUNS)
-        .map(|_| {
+/// Nanoseconds a job of each of these: the medians of turns in which all run.
+fn medians<const N: usize>(runs: [&dyn Fn(); N]) -> [f64; N] {
+    let mut times = [(); N].map(|()| Vec::new());
+    for _ in 0..RUNS {
+        for (run, times) in runs.iter().zip(&mut times) {
             let start = Instant::now();
             run();
-            start.elapsed().as_nanos() as f64 / JOBS as f64
-        })
-        .collect();
-    times.sort_by(f64::total_cmp);
-    times[RUNS / 2]
+            times.push(start.elapsed().as_nanos() as f64 / JOBS as f64);
+        }
+    }
+    times.map(|mut times| {
+        times.sort_by(f64::total_cmp);
+        times[RUNS / 2]
+    })
 }
 
 /// An insert, a removal, a completion and a reuse, in one thread.
@@ -75,34 +82,64 @@ fn requests(workers: u32) {
             });
         }
         let pass = queue.pass().unwrap();
-        for mut job in 0..JOBS {
-            while let Err(refused) = pass.submit(job, 0, Place::Back) {
-                assert_eq!(refused.cause, SubmitError::NoIrp);
-                job = refused.into_value();
-                thread::yield_now();
-            }
+        for job in 0..JOBS {
+            let submitted = pass.submit_timeout(job, 0, Place::Back, Duration::from_secs(60));
+            submitted.unwrap();
         }
         queue.shutdown();
     });
     assert_eq!(sum.into_inner(), JOBS * (JOBS - 1) / 2);
 }
 
-/// The same through a channel, whose receiver the workers share.
-fn channel(workers: u32) {
+/// A job that can be cancelled until a worker has it, as one writes it over a channel: its canceller
+/// and the channel share it, and one of them claims it.
+struct Job {
+    claimed: AtomicBool,
+    job: u64,
+}
+
+impl Job {
+    fn new(job: u64) -> Arc<Job> {
+        let claimed = AtomicBool::new(false);
+        Arc::new(Job { claimed, job })
+    }
+
+    /// The job, if nobody had it before.
+    fn claim(&self) -> Option<u64> {
+        let claim = self.claimed.compare_exchange(false, true, SeqCst, SeqCst);
+        claim.is_ok().then_some(self.job)
+    }
+}
+
+/// A cycle of such a job, in one thread.
+fn cycle_of_a_channel() {
     let (sender, receiver) = mpsc::sync_channel(PLACES as usize);
+    for job in 0..JOBS {
+        // Its name, which a canceller would have.
+        let name = Job::new(job);
+        sender.send(Arc::clone(&name)).unwrap();
+        assert_eq!(receiver.recv().unwrap().claim(), Some(job));
+        drop(name);
+    }
+}
+
+/// The same with workers, who share the receiver.
+fn channel(workers: u32) {
+    let (sender, receiver) = mpsc::sync_channel::<Arc<Job>>(PLACES as usize);
     let (receiver, sum) = (Mutex::new(receiver), AtomicU64::new(0));
     thread::scope(|scope| {
         for _ in 0..workers {
             scope.spawn(|| loop {
                 let job = receiver.lock().unwrap().recv();
                 match job {
-                    Ok(job) => sum.fetch_add(job, Relaxed),
+                    Ok(job) => sum.fetch_add(job.claim().unwrap_or(0), Relaxed),
                     Err(_) => break,
                 };
             });
         }
         for job in 0..JOBS {
-            sender.send(job).unwrap();
+            let name = Job::new(job);
+            sender.send(Arc::clone(&name)).unwrap();
         }
         drop(sender);
     });
@@ -114,16 +151,17 @@ fn main() {
     if !std::env::args().any(|word| word == "--bench") {
         return;
     }
-    let (bare, whole) = (median(bare_cycle), median(cycle_of_requests));
+    let [bare, whole, job] = medians([&bare_cycle, &cycle_of_requests, &cycle_of_a_channel]);
     println!(
-        "one thread: the queue's cycle {bare:.0} ns, a request {whole:.0} ns, {:.2} times",
-        whole / bare
+        "one thread: the queue's cycle {bare:.0} ns, a request {whole:.0} ns, a cancellable job of \
+         a channel {job:.0} ns, {:.2} times",
+        whole / job
     );
     for workers in [1, 2, 4, 8] {
-        let (ours, theirs) = (median(|| requests(workers)), median(|| channel(workers)));
+        let [ours, theirs] = medians([&|| requests(workers), &|| channel(workers)]);
         println!(
-            "{workers} workers: a request {ours:.0} ns, a job of the channel {theirs:.0} ns, \
-             {:.2} times",
+            "{workers} workers: a request {ours:.0} ns, a cancellable job of a channel \
+             {theirs:.0} ns, {:.2} times",
             ours / theirs
         );
     }

@@ -3,9 +3,7 @@
 //! that finds its device busy is put back.
 //!
 //! `cargo run --example job_server` prints what became of the jobs.
-use csq::{
-    Missed, OwnedPass, OwnedRequest, Peek, Place, PutBack, RequestId, Requests, Size, SubmitError,
-};
+use csq::{Missed, OwnedPass, OwnedRequest, Peek, Place, PutBack, RequestId, Requests, Size};
 use std::sync::atomic::{AtomicBool, AtomicU32, Ordering::SeqCst};
 use std::sync::mpsc::{self, Sender};
 use std::thread;
@@ -16,6 +14,8 @@ const JOBS: u32 = 50;
 const WORKERS: usize = 4;
 /// The most clients at a time: each has a file object of its own.
 const CONNECTIONS: u32 = 4;
+/// How long a client waits for room.
+const PATIENCE: Duration = Duration::from_secs(60);
 
 /// What a client asks for, and where the answer goes.
 struct Job {
@@ -101,7 +101,10 @@ fn client(pass: &OwnedPass<Job>, connection: u32, totals: &Totals) -> u32 {
     let mut last: Option<RequestId> = None;
     for number in 0..JOBS {
         let answer = answer.clone();
-        let id = submit(pass, Job { number, answer }, connection);
+        // Waits while all requests are under way.
+        let id = pass
+            .submit_timeout(Job { number, answer }, connection, Place::Back, PATIENCE)
+            .expect("room in time");
         if number % 5 == 4 {
             cancel(pass, last, totals);
         }
@@ -110,20 +113,6 @@ fn client(pass: &OwnedPass<Job>, connection: u32, totals: &Totals) -> u32 {
     // It leaves with half of the answers.
     answers.iter().take(JOBS as usize / 2).for_each(drop);
     JOBS
-}
-
-/// Submits a job, and waits while all requests are under way.
-fn submit(pass: &OwnedPass<Job>, mut job: Job, connection: u32) -> RequestId {
-    loop {
-        match pass.submit(job, connection, Place::Back) {
-            Ok(id) => return id,
-            Err(refused) => {
-                assert_eq!(refused.cause, SubmitError::NoIrp);
-                job = refused.into_value();
-                thread::yield_now();
-            }
-        }
-    }
 }
 
 fn cancel(pass: &OwnedPass<Job>, request: Option<RequestId>, totals: &Totals) {

@@ -1,7 +1,15 @@
-//! The example of a server, under load: each request is accounted for, and finds a number.
+//! The examples of servers, under load: each request is accounted for, and finds a number.
+#[allow(dead_code)]
+#[path = "../examples/futures.rs"]
+mod futures;
 #[allow(dead_code)]
 #[path = "../examples/server/main.rs"]
 mod server;
+
+#[test]
+fn each_request_of_a_server_of_tasks_is_accounted_for() {
+    futures::run().unwrap();
+}
 
 #[test]
 fn two_hundred_connections_come_and_go() {

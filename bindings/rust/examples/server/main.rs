@@ -1,5 +1,5 @@
 //! A server of many connections, which come and go: one thread reads what they send, workers serve
-//! their requests, and a timer cancels those that wait too long. A request that finds its device
+//! their requests in batches, and one thread ends those that are due. A request that finds its device
 //! busy is put back. Once a connection has gone its requests are drained, and the next one has its
 //! number. Channels stand for the network; clients in the same program (`clients.rs`) keep the
 //! server busy, and hang up early now and then. In the end every request is accounted for.
@@ -9,14 +9,15 @@
 mod clients;
 
 use clients::{ask, Asked, Load};
-use csq::{
-    Missed, OwnedPass, OwnedRequest, Peek, Place, PutBack, RequestId, Requests, Size, SubmitError,
-};
+use csq::{OwnedPass, OwnedRequest, Peek, Place, PutBack, Requests, Size, SubmitError};
 use std::sync::atomic::{AtomicBool, AtomicU64, Ordering::SeqCst};
 use std::sync::mpsc::{self, Receiver, Sender};
 use std::sync::{Arc, Condvar, Mutex};
 use std::thread;
 use std::time::{Duration, Instant};
+
+/// How many requests a worker takes at once.
+const BATCH: usize = 16;
 
 /// One request in seven needs the device.
 const NEEDS_DEVICE: u32 = 7;
@@ -143,24 +144,17 @@ impl Server {
     }
 
     /// Submits what comes in, until all clients have gone; and drains each connection that goes.
-    fn read(
-        &self,
-        pass: &OwnedPass<Job>,
-        events: Receiver<Event>,
-        timer: Sender<(Instant, RequestId)>,
-    ) {
+    fn read(&self, pass: &OwnedPass<Job>, events: Receiver<Event>, wait: Duration) {
         for event in events {
             match event {
                 Event::Request(connection, number) => {
                     self.submitted.fetch_add(1, SeqCst);
-                    let file = connection.file;
-                    match pass.submit(Job { connection, number }, file, Place::Back) {
-                        Ok(id) => timer.send((Instant::now(), id)).expect("a timer"),
-                        Err(refused) => {
-                            assert_eq!(refused.cause, SubmitError::NoIrp);
-                            self.without_number.fetch_add(1, SeqCst);
-                            self.answer(refused.into_value(), Answer::Cancelled);
-                        }
+                    let (file, due) = (connection.file, Instant::now() + wait);
+                    let job = Job { connection, number };
+                    if let Err(refused) = pass.submit_until(job, file, Place::Back, due) {
+                        assert_eq!(refused.cause, SubmitError::NoIrp);
+                        self.without_number.fetch_add(1, SeqCst);
+                        self.answer(refused.into_value(), Answer::Cancelled);
                     }
                 }
                 Event::Gone(connection) => {
@@ -172,22 +166,18 @@ impl Server {
         }
     }
 
-    /// Cancels each request that waits too long. All have the same time, so the first to come is
-    /// due first.
-    fn cancel_what_is_due(
-        &self,
-        pass: &OwnedPass<Job>,
-        wait: Duration,
-        submitted: Receiver<(Instant, RequestId)>,
-    ) {
-        for (since, id) in submitted {
-            thread::sleep(wait.saturating_sub(since.elapsed()));
-            match pass.cancel(id) {
-                Ok(job) => self.answer(job, Answer::Cancelled),
-                // A worker has it, and looks at the cancel; or it was in time.
-                Err(Missed::Taken | Missed::Completed) => {}
-                Err(missed) => unreachable!("{missed}"),
-            }
+    /// Answers each request that waits too long. A worker that has one looks at that itself.
+    fn end_what_is_due(&self, pass: &OwnedPass<Job>) {
+        while let Some(jobs) = pass.recv_due() {
+            jobs.into_iter()
+                .for_each(|job| self.answer(job, Answer::Cancelled));
+        }
+    }
+
+    /// Serves what comes, some under one lock, until nothing comes any more.
+    fn work(&self, pass: &OwnedPass<Job>) {
+        while let Ok(batch) = pass.recv_many(Peek::Any, BATCH) {
+            batch.into_iter().for_each(|request| self.serve(request));
         }
     }
 }
@@ -212,8 +202,7 @@ pub fn run(options: [u32; 5]) -> Result<(), Box<dyn std::error::Error>> {
     let asked: Asked = thread::scope(|scope| {
         let (server, pass, numbers, load) = (&server, &pass, &numbers, &load);
         let (network, events) = mpsc::channel();
-        let (timer, submitted) = mpsc::channel();
-        let reader = scope.spawn(move || server.read(pass, events, timer));
+        let reader = scope.spawn(move || server.read(pass, events, wait));
         let clients = (0..Load::CLIENTS).map(|client| {
             let network = network.clone();
             scope.spawn(move || ask(load, client, numbers, &network))
@@ -230,12 +219,9 @@ pub fn run(options: [u32; 5]) -> Result<(), Box<dyn std::error::Error>> {
             queue.len()
         );
         for _ in 0..workers {
-            scope.spawn(move || {
-                pass.iter(Peek::Any)
-                    .for_each(|request| server.serve(request))
-            });
+            scope.spawn(move || server.work(pass));
         }
-        scope.spawn(move || server.cancel_what_is_due(pass, wait, submitted));
+        scope.spawn(move || server.end_what_is_due(pass));
         load.meet.wait();
         let asked = clients
             .into_iter()
