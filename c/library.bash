@@ -25,10 +25,32 @@ csq_receipt() {
   { printf 'kit %s\nverdict %s\n' "$kit" "$verdict" && csq_sums "$@"; } >"$1.receipt"
 }
 
-# Prints the files to link, one a line, in the linker's order: the archive, which is built anew where its sources have
-# changed, and the kit's functions for the heap; and leaves a receipt of both. Says why where there is none.
+# csq_compile TOP ARCHIVE FILE.. -- COMPILER FLAG..: compiles these files, below TOP, into an archive.
+csq_compile() {
+  local top=$1 archive=$2 source sources=() objects=()
+  shift 2
+  while [[ $1 != -- ]]; do
+    sources+=("$1")
+    shift
+  done
+  shift
+  rm -f "$archive"
+  for source in "${sources[@]}"; do
+    objects+=("${archive%.a}.$(basename "$source" .c).o")
+    "$@" -std=c11 -I"$top/include" -c "$top/$source" -o "${objects[-1]}" || return 1
+  done
+  ar rcs "$archive" "${objects[@]}"
+}
+
+csq_queue_files=(bench/c/plain_{queue,judges,list}.c)
+csq_layer_files=(c/requests/{calls,ends,make,wait}.c)
+csq_ledger_files=(bench/c/plain_ledger.c)
+
+# Prints the files to link, one a line, in the linker's order: csq_requests.h's code, which is compiled here and isn't proved,
+# the archive of csq.h, which is built anew where its sources have changed, and the kit's functions for the heap; and leaves a
+# receipt of them.
 csq_library() {
-  local top=$1 rt kit said
+  local top=$1 rt kit said layer
   if ! rt=$(command -v rt); then
     echo "the proved library can't be built: there is no rt (--plain takes the plain C queue)" >&2
     return 1
@@ -38,17 +60,25 @@ csq_library() {
     echo "the proved library was not built" >&2
     return 1
   fi
-  set -- "$top/crates/csq_c/out/libcsq_c.a" "$kit/c/liblibc_c.a"
+  if ! layer=$(csq_requests_library "$top"); then
+    echo "csq_requests.h's code was not compiled: CC names another compiler than ${CC:-cc}" >&2
+    return 1
+  fi
+  set -- "$layer" "$top/crates/csq_c/out/libcsq_c.a" "$kit/c/liblibc_c.a"
   csq_receipt "$(rt version)" "$(grep '^logic=' <<<"$said" | tail -1)" "$@" && printf '%s\n' "$@"
 }
 
-# Compiles the plain C queue of the same header into an archive: csq_plain_library TOP ARCHIVE COMPILER FLAG..
+# Compiles csq_requests.h's code for the proved library, and prints the archive. The plain ledger is in it until the proved
+# library has the calls of csq_ledger.h: csq_requests_library TOP
+csq_requests_library() {
+  local archive=$1/crates/csq_c/out/libcsq_requests.a
+  csq_compile "$1" "$archive" "${csq_layer_files[@]}" "${csq_ledger_files[@]}" -- "${CC:-cc}" -O2 -fPIC && echo "$archive"
+}
+
+# Compiles the plain C queue of csq.h alone into an archive: csq_plain_queue TOP ARCHIVE COMPILER FLAG..
+csq_plain_queue() { csq_compile "$1" "$2" "${csq_queue_files[@]}" -- "${@:3}"; }
+
+# The same with csq_requests.h's code: csq_plain_library TOP ARCHIVE COMPILER FLAG..
 csq_plain_library() {
-  local top=$1 archive=$2 compiler=$3 name
-  shift 3
-  rm -f "$archive"
-  for name in plain_queue plain_judges plain_list; do
-    "$compiler" -std=c11 "$@" -I"$top/include" -c "$top/bench/c/$name.c" -o "${archive%.a}.$name.o" || return 1
-  done
-  ar rcs "$archive" "${archive%.a}".plain_*.o
+  csq_compile "$1" "$2" "${csq_queue_files[@]}" "${csq_ledger_files[@]}" "${csq_layer_files[@]}" -- "${@:3}"
 }

@@ -100,7 +100,7 @@ csq_link() {
   "$AR" rcsD "$lib/libcsq.a" "$work/csq.o"
   # Calls inside of the library are bound there (-Bsymbolic): what was proved isn't exchanged for a program's own.
   "$CC" -shared -Wl,-soname,"libcsq.so.$major" -Xlinker --version-script="$work/map" -Wl,-Bsymbolic -Wl,-z,defs \
-    -Wl,-z,relro,-z,now -Wl,--require-defined=csq_new_queue "$work/csq.o" -o "$lib/libcsq.so.$version" ||
+    -Wl,-z,relro,-z,now -Wl,--require-defined=csq_new_queue "$work/csq.o" -pthread -o "$lib/libcsq.so.$version" ||
     csq_refuse "not linked" "the archives aren't a whole library. Name all that csq_library of c/library.bash prints"
   ln -s "libcsq.so.$version" "$lib/libcsq.so.$major"
   ln -s "libcsq.so.$major" "$lib/libcsq.so"
@@ -126,7 +126,7 @@ csq_add_iocsq() {
 # Makes the versions of symbols, WORK/map, and adds the man pages, and csqsim with its completions if there is one:
 # csq_add_made TOP WORK PROGRAM
 csq_add_made() {
-  local top=$1 work=$2 tree=$2/tree program=$3 page pages=(csq.3 csq_requests.3)
+  local top=$1 work=$2 tree=$2/tree program=$3 page pages=(csq.3 csq_ledger.3 csq_requests.3)
   if [[ $program ]]; then
     install -D -m 755 "$program" "$tree/bin/csqsim"
     pages+=(csqsim.1)
@@ -154,7 +154,7 @@ csq_package() {
   csq_link "$top" "$work" "$version" "csq $version proved=$proved${kit:+ kit=$kit}" "$@"
   local values=("VERSION=$version" "MAJOR=${version%%.*}" "LIBDIR=$LIBDIR" "PREFIX=${prefix// /\\ }"
     "TO_PREFIX=$(realpath -ms --relative-to="/$LIBDIR/cmake/csq" /)" "PROVED=$proved" "KIT=$kit")
-  install -D -m 644 -t "$tree/include/keuvatsi" "$top"/include/csq{,_requests,_requests_inside}.h
+  install -D -m 644 -t "$tree/include/keuvatsi" "$top"/include/csq{,_ledger,_requests}.h
   csq_add_iocsq "$top" "$tree"
   mkdir -p "$lib/pkgconfig" "$lib/cmake/csq"
   csq_fill "$top/c/package/csq.pc.in" "${values[@]}" >"$lib/pkgconfig/csq.pc"

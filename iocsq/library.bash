@@ -21,7 +21,7 @@ iocsq_objects() {
         return 1
     done
     if ((${#library[@]} == 0)); then
-      csq_plain_library "$top" "$folder.new/libcsq_plain.a" "$@" || return 1
+      csq_plain_queue "$top" "$folder.new/libcsq_plain.a" "$@" || return 1
     fi
     mv "$folder.new" "$folder"
   fi

@@ -1,8 +1,9 @@
 /* A server over csq_requests.h. One thread with epoll reads requests from connections that come and
- * go, workers serve them, and a timer cancels those that wait too long. A request that finds its
- * device busy is put back. Once a connection has gone its requests are drained, and the next one
- * has its number. Clients in the same program (load.c) keep the server busy, and hang up early now
- * and then. In the end every request is accounted for.
+ * go, workers serve them, and the queue's clock cancels those that wait too long. A request that
+ * finds its device busy is put back. When a client hangs up the requests of its connection are
+ * drained, and once it is quiet the next connection has its number. Clients in the same program
+ * (load.c) keep the server busy, and hang up early now and then. In the end every request is
+ * accounted for.
  *
  *     cc -std=c99 -Iinclude c/examples/server.c c/examples/load.c LIBRARY.. -pthread -o server
  *     cc -std=c99 -IPREFIX/include/keuvatsi server.c load.c $(pkg-config --libs csq) -pthread \
@@ -14,32 +15,35 @@
 #include "csq_requests.h"
 #include "load.h"
 
+#include <errno.h>
+#include <pthread.h>
 #include <sched.h>
 #include <stdio.h>
+#include <stdlib.h>
 #include <sys/epoll.h>
+#include <sys/eventfd.h>
 #include <sys/socket.h>
 #include <unistd.h>
 
-enum { DEVICE = 7, DEADLINES = 1 << 20, MOST_WORKERS = 64 };
+enum { DEVICE = 7, MOST_WORKERS = 64 };
 enum { CONNECTIONS, JOBS, ROUNDS, WORKERS, WAIT, OPTIONS };
 static unsigned options[OPTIONS] = { 200, 16, 10, 4, 100 };
 
 struct connection {
+    struct csq_quiet quiet;
     int fd;
-    uint32_t file; /* its number */
-    struct connection *next; /* while it is leaving, or free */
+    uint32_t file;           /* its number */
+    struct connection *next; /* while it is free */
 };
 struct job { struct connection *connection; uint32_t id; }; /* what a request carries */
 
 static struct csq_requests *requests;
-static struct connection *table, *free_connections, *leaving; /* of the thread with epoll */
-static int listener, poller, device_busy;
-static pthread_t reader, timer, workers[MOST_WORKERS];
-/* A ring: the first is due first. */
-static struct { struct csq_irp name; long due; } deadlines[DEADLINES];
-static unsigned long deadlines_added, timer_ends;
-/* What became of the requests. */
-static unsigned long submitted, served, cancelled, expired, went_back, without_number;
+static struct connection *table, *free_connections; /* the latter under the mutex */
+static pthread_mutex_t mutex = PTHREAD_MUTEX_INITIALIZER;
+static int listener, poller, someone_has_gone, device_busy;
+static pthread_t reader, workers[MOST_WORKERS];
+/* What became of the requests, and how many connections have gone. */
+static unsigned long submitted, served, cancelled, went_back, without_number, gone;
 
 #define ADD(total, count) __atomic_fetch_add(&(total), (count), __ATOMIC_SEQ_CST)
 #define NOW(value) __atomic_load_n(&(value), __ATOMIC_SEQ_CST)
@@ -53,9 +57,9 @@ static void answer(struct job *job, uint32_t status) {
 }
 
 /* Of a request that a cancel or a drain ends. */
-static void before_completion(void *context, struct csq_irp name, void *value) {
-    answer(value, CSQ_STATUS_CANCELLED);
-    (void)context, (void)name;
+static void before_completion(void *context, const struct csq_ending *ending) {
+    answer(ending->value, CSQ_STATUS_CANCELLED);
+    (void)context;
 }
 
 /* ---- Workers ---- */
@@ -91,50 +95,60 @@ static void *work(void *unused) {
     return unused;
 }
 
-/* ---- Deadlines ---- */
-static void *cancel_what_is_due(void *unused) {
-    for (unsigned long at = 0; !NOW(timer_ends); rest()) {
-        for (long now = milliseconds();
-             at < NOW(deadlines_added) && deadlines[at % DEADLINES].due <= now; at++) {
-            void *value; /* which is answered by then */
-            uint32_t code = csq_requests_cancel(requests, deadlines[at % DEADLINES].name, &value);
-            /* CSQ_NONE: a worker has it, and looks at the cancel. CSQ_STALE: it was served in
-             * time. */
-            ADD(expired, code != CSQ_STALE);
-        }
-    }
-    return unused;
-}
-
 /* ---- The thread with epoll ---- */
-static void watch(int fd, struct connection *connection) {
-    struct epoll_event event = { .events = EPOLLIN, .data = { .ptr = connection } };
+static void watch(int fd, void *what) {
+    struct epoll_event event = { .events = EPOLLIN, .data = { .ptr = what } };
     must(epoll_ctl(poller, EPOLL_CTL_ADD, fd, &event) == 0, "epoll_ctl");
 }
 
+/* Nothing of the connection is listed or taken any more, so its number is free. Some thread's call
+ * of the queue says so: that of the reader, or that of the last worker. */
+static void is_quiet(struct csq_quiet *quiet) {
+    struct connection *connection = quiet->context;
+    const uint64_t one = 1;
+    close(connection->fd);
+    pthread_mutex_lock(&mutex);
+    connection->next = free_connections;
+    free_connections = connection;
+    pthread_mutex_unlock(&mutex);
+    ADD(gone, 1);
+    must(write(someone_has_gone, &one, sizeof one) == (ssize_t)sizeof one, "not written");
+}
+
+static struct connection *free_connection(void) {
+    struct connection *connection;
+    pthread_mutex_lock(&mutex);
+    connection = free_connections;
+    free_connections = connection ? connection->next : NULL;
+    pthread_mutex_unlock(&mutex);
+    return connection;
+}
+
+/* Takes those that wait, as long as there is a number for each. */
 static void accept_all(void) {
-    int fd;
-    while (free_connections && (fd = accept(listener, NULL, NULL)) >= 0) {
-        struct connection *connection = free_connections;
-        free_connections = connection->next;
-        connection->fd = fd;
-        watch(fd, connection);
+    struct connection *connection;
+    while ((connection = free_connection()) != NULL) {
+        connection->fd = accept(listener, NULL, NULL);
+        if (connection->fd < 0) {
+            pthread_mutex_lock(&mutex);
+            connection->next = free_connections;
+            free_connections = connection;
+            pthread_mutex_unlock(&mutex);
+            return;
+        }
+        watch(connection->fd, connection);
     }
 }
 
 static void submit(struct connection *connection, uint32_t id) {
     struct job *job = malloc(sizeof *job), made = { connection, id };
+    struct csq_submit how = { job, connection->file, 0, 0, csq_requests_now() + options[WAIT] };
     struct csq_irp name;
     must(job != NULL, "no memory");
     *job = made;
     ADD(submitted, 1);
-    if (csq_requests_submit(requests, job, connection->file, 0, &name) == CSQ_OK) {
-        unsigned long at = NOW(deadlines_added);
-        deadlines[at % DEADLINES].name = name;
-        deadlines[at % DEADLINES].due = milliseconds() + (long)options[WAIT];
-        ADD(deadlines_added, 1);
-    } else { /* CSQ_FULL: all requests are under way */
-        ADD(without_number, 1);
+    if (csq_requests_submit_with(requests, &how, &name) != CSQ_OK) {
+        ADD(without_number, 1); /* CSQ_FULL: all requests are under way */
         answer(job, CSQ_STATUS_INSUFFICIENT_RESOURCES);
     }
 }
@@ -146,42 +160,28 @@ static void read_from(struct connection *connection) {
         submit(connection, id);
     }
     if (got == 0 || errno != EAGAIN) { /* the client has hung up */
+        const struct csq_quiet quiet = { is_quiet, connection, NULL, 0, 0, NULL };
         must(epoll_ctl(poller, EPOLL_CTL_DEL, connection->fd, NULL) == 0, "epoll_ctl");
-        connection->next = leaving;
-        leaving = connection;
-    }
-}
-
-/* The number of a connection is free once nothing of it is listed or taken. This waits for no
- * worker: what one has still is looked for again in the next turn. Returns how many connections
- * have gone. */
-static unsigned let_go(void) {
-    unsigned gone = 0;
-    for (struct connection **at = &leaving, *connection; (connection = *at) != NULL;) {
-        if (csq_requests_drain(requests, connection->file, 0) == CSQ_OK) {
-            close(connection->fd);
-            *at = connection->next;
-            connection->next = free_connections;
-            free_connections = connection;
-            gone++;
-        } else {
-            at = &connection->next;
+        connection->quiet = quiet;
+        if (csq_requests_drain_start(requests, connection->file, &connection->quiet) == CSQ_OK) {
+            is_quiet(&connection->quiet);
         }
     }
-    return gone;
 }
 
 static void *read_all(void *unused) {
     struct epoll_event events[256];
-    for (unsigned gone = 0; gone < options[CONNECTIONS] * options[ROUNDS]; gone += let_go()) {
-        int count = epoll_wait(poller, events, 256, leaving ? 1 : -1);
+    while (NOW(gone) < options[CONNECTIONS] * options[ROUNDS]) {
+        int count = epoll_wait(poller, events, 256, -1);
         for (int at = 0; at < count; at++) {
-            if (events[at].data.ptr) {
+            uint64_t times;
+            if (events[at].data.ptr == &someone_has_gone) {
+                must(read(someone_has_gone, &times, sizeof times) > 0, "not read");
+            } else if (events[at].data.ptr != &listener) {
                 read_from(events[at].data.ptr);
-            } else {
-                accept_all();
             }
         }
+        accept_all();
     }
     return unused;
 }
@@ -203,7 +203,7 @@ static void all_are_open(void) {
     for (unsigned at = 0; at < options[WORKERS]; at++) {
         start(&workers[at], work);
     }
-    start(&timer, cancel_what_is_due);
+    must(csq_requests_start_clock(requests) == CSQ_OK, "no clock");
 }
 
 static void read_options(int count, char **words) {
@@ -229,21 +229,25 @@ static void begin(void) {
         table[file].next = free_connections;
     }
     must((poller = epoll_create1(0)) >= 0, "no epoll");
-    watch(listener = load_listen(), NULL);
+    must((someone_has_gone = eventfd(0, EFD_NONBLOCK)) >= 0, "no eventfd");
+    watch(someone_has_gone, &someone_has_gone);
+    watch(listener = load_listen(), &listener);
     start(&reader, read_all);
 }
 
 /* Once all connections have gone each thread ends, and nothing is left. */
-static void end(void) {
+static struct csq_requests_stats end(void) {
+    struct csq_requests_stats stats;
     pthread_join(reader, NULL);
     csq_requests_close(requests);
     for (unsigned at = 0; at < options[WORKERS]; at++) {
         pthread_join(workers[at], NULL);
     }
-    ADD(timer_ends, 1);
-    pthread_join(timer, NULL);
+    stats.size = sizeof stats;
+    must(csq_requests_read_stats(requests, &stats) == CSQ_OK, "no statistics");
     must(csq_requests_free(&requests) == CSQ_OK, "requests are left");
     free(table);
+    return stats;
 }
 
 int main(int count, char **words) {
@@ -252,11 +256,11 @@ int main(int count, char **words) {
     long began = milliseconds();
     begin();
     load_run(&load);
-    end();
-    printf("%lu requests: %lu served, %lu cancelled; %lu were due; %lu put back; %lu found no "
-           "number; %ld ms\n",
-           submitted, served, cancelled, expired, went_back, without_number,
-           milliseconds() - began);
+    struct csq_requests_stats stats = end();
+    printf("%lu requests: %lu served, %lu cancelled; %lu were due while listed; %lu put back; %lu "
+           "found no number; workers slept %lu times; %ld ms\n",
+           submitted, served, cancelled, (unsigned long)stats.ended[CSQ_WHY_DUE], went_back,
+           without_number, (unsigned long)stats.waits, milliseconds() - began);
     /* Of a connection that hung up the server may have read less than was sent. */
     must(load.answers <= submitted && submitted <= load.answers + load.hang_ups * load.jobs,
          "a request was not read");

@@ -8,15 +8,15 @@ header_lines=$(printf 'passed %s\n' the_header_names_what_is_there each_code_has
 # says "Since: " and the version that has it first.
 calls_of_first=35 symbols_of_first=27
 
-# only_csq PREFIX VERSION: each library gives csq_* alone to others, and just the calls of csq.h, those of 1.0 under the
-# version CSQ_1, and the later ones under theirs, none of which is newer than the header.
+# only_csq PREFIX VERSION: each library gives csq_* alone to others, and just the calls of the headers, those of 1.0 under
+# the version CSQ_1, and the later ones under theirs, none of which is newer than csq.h.
 only_csq() {
   local lib=$1/lib version=$2 newest
   "$top/c/package/made" "$work" calls
   nm -g --defined-only "$lib/libcsq.a" | awk 'NF == 3 { print $3 }' | sort >"$work/static"
   readelf -W --dyn-syms "$lib/libcsq.so" | awk '$5 == "GLOBAL" && $7 ~ /^[0-9]+$/ { print $8 }' | sort >"$work/shared"
   newest=$(sed 's/.*CSQ_//' "$work/shared" | sort -V | tail -1)
-  diff <(names_of_calls) <(cut -d' ' -f1 "$work/calls" | sort) && diff <(names_of_calls) "$work/static" &&
+  diff <(names_of_calls csq_requests.h) <(cut -d' ' -f1 "$work/calls" | sort) && diff <(names_of_calls csq_requests.h) "$work/static" &&
     diff "$work/static" <(sed 's/@@CSQ_.*//' "$work/shared") && count_is $calls_of_first ' 1\.0$' "$work/calls" &&
     count_is $symbols_of_first '@@CSQ_1$' "$work/shared" && [[ $newest == "${version%.*}" || $newest == "${version%%.*}" ]]
 }
@@ -32,7 +32,7 @@ count_is() {
 # the archive has too.
 by_name() {
   local calls
-  mapfile -t calls < <(names_of_calls)
+  mapfile -t calls < <(names_of_calls csq_requests.h)
   "$3" -std=c11 "${warnings[@]}" -I"$top/include" "$top/c/tests/by_name.c" -ldl -o "$work/by_name" &&
     "$work/by_name" "$1/lib/libcsq.so" "$2" "${calls[@]}" && grep -qaF "$2" "$1/lib/libcsq.a"
 }
@@ -43,9 +43,10 @@ says_proved() {
   [[ $(pkg-config --variable=proved csq) == "$2" && $(pkg-config --variable=kit csq) == "$3" ]]
 }
 
-# well_formed PAGE..: the man pages have no error, by mandoc or man, and the first one has each call of csq.h.
+# well_formed FOLDER: the man pages below it have no error, by mandoc or man, and those of the headers have each call.
 well_formed() {
-  local page
+  local page call
+  set -- "$1"/man{3/csq,3/csq_ledger,3/csq_requests,1/csqsim}.*
   for page; do
     if command -v mandoc >"$work/page"; then
       mandoc -Tlint -W error "$page" >"$work/said"
@@ -54,8 +55,8 @@ well_formed() {
     fi || return 1
     if grep . "$work/said"; then return 1; fi
   done
-  for page in $(names_of_calls); do
-    grep -q "\b$page(" "$1" || { echo "$1 lacks $page"; return 1; }
+  for call in $(names_of_calls csq_requests.h); do
+    grep -q "^.fB.*\b$call(" "$@" || { echo "no page has $call"; return 1; }
   done
 }
 
@@ -73,7 +74,7 @@ staged() {
   rm -rf "$stage"
   DESTDIR=$stage "$top/c/install" "$prefix" "$@" && [[ ! -e $prefix ]] &&
     ! grep -rF "$stage" "$stage" && grep -xF "prefix=${prefix// /\\ }" "$stage$prefix/lib/pkgconfig/csq.pc" || return 1
-  for header in include/keuvatsi/csq.h include/keuvatsi/csq_requests.h include/keuvatsi/csq_requests_inside.h; do
+  for header in include/keuvatsi/csq{,_ledger,_requests}.h; do
     cmp "$top/include/${header##*/}" "$stage$prefix/$header" || return 1
   done
 }
@@ -155,7 +156,7 @@ from_a_clone() {
 built_by_rt() {
   local clone="$work/a clone" stand_in=$work/stand_in
   mkdir -p "$clone/crates/csq_c/out" "$stand_in"/{bin,c}
-  csq_plain_library "$top" "$work/built.a" "$CC" -O2 -fPIC && ar rc "$stand_in/c/liblibc_c.a" || return 1
+  csq_plain_queue "$top" "$work/built.a" "$CC" -O2 -fPIC && ar rc "$stand_in/c/liblibc_c.a" || return 1
   cat >"$stand_in/bin/rt" <<END
 #!/bin/sh
 case \$1 in
@@ -188,12 +189,12 @@ by_pkg_config() {
     [[ $("$work/program") == "$text" ]]
 }
 
-# server_by_pkg_config PREFIX COMPILER: the example of a server, over the installed csq_requests.h.
+# server_by_pkg_config PREFIX EXAMPLE COMPILER: an example of a server, over the installed csq_requests.h.
 server_by_pkg_config() {
   local flags libs
   local -x PKG_CONFIG_PATH=$1/lib/pkgconfig LD_LIBRARY_PATH=$1/lib
   eval "flags=($(pkg-config --cflags csq)) libs=($(pkg-config --libs csq))"
-  "$2" -std=c99 "${warnings[@]}" "${flags[@]}" "$programs"/{server,load}.c "${libs[@]}" -pthread -o "$work/program" &&
+  "$3" -std=c99 "${warnings[@]}" "${flags[@]}" "$programs"/{"$2",load}.c "${libs[@]}" -o "$work/program" &&
     "$work/program" 8 4 2
 }
 
@@ -223,11 +224,14 @@ run_programs() {
           "$header_lines" "$cxx" -std=c++17 "$programs/header.cpp"
       done
     done
-    expect "$name: pkg-config, the server" server_by_pkg_config "$prefix" "$compiler"
+    for kind in server loop; do
+      expect "$name: pkg-config, $kind.c" server_by_pkg_config "$prefix" $kind "$compiler"
+    done
   fi
   if need cmake "$name: CMake" && need make "$name: CMake"; then
     expect "$name: CMake" by_cmake "$prefix" "$version" "$kit" "$compiler"
   fi
+  expect "$name: csq_requests.h from Python" python3 -B "$top/c/tests/requests_by_name.py" "$prefix/lib/libcsq.so"
   expect "$name: by name, and csq_build" by_name "$prefix" "csq $version proved=$proved${kit:+ kit=$kit}" "$compiler"
 }
 
@@ -370,7 +374,7 @@ run_archives() {
   expect "archives: c/install" "$top/c/install" "$prefix" "$@"
   run_install archives "$prefix" "proved, by this kit: $kit" "$kit" "$@"
   if command -v mandoc man >/dev/null; then
-    expect "install: the man pages" well_formed "$prefix"/share/man/man{3/csq,3/csq_requests,1/csqsim}.*
+    expect "install: the man pages" well_formed "$prefix/share/man"
   else
     skip_optional "install: the man pages" "there is neither mandoc nor man (Debian's package man-db)"
   fi
@@ -401,7 +405,7 @@ run_installs() {
   done
   programs=$work/programs installed="$work/installed plain"
   mkdir "$programs"
-  for file in examples/{driver.c,server.c,load.c,load.h} tests/{header.c,header.cpp,CMakeLists.txt}; do
+  for file in examples/{driver.c,server.c,loop.c,load.c,load.h} tests/{header.c,header.cpp,CMakeLists.txt}; do
     sed -E 's|"(csq[a-z_]*\.h)"|<keuvatsi/\1>|' "$top/c/$file" >"$programs/${file##*/}"
   done
   # A stand-in for csqsim.

@@ -98,7 +98,7 @@ static void a_cancel_gets_the_value_or_says_why_not(uint32_t list) {
     IS(next(requests, 0, &taken), 2);
     IS(csq_requests_is_cancelled(requests, &taken), 0);
     IS(csq_requests_cancel(requests, second, &value), CSQ_NONE);
-    IS(csq_requests_is_cancelled(requests, &taken), 1);
+    IS(csq_requests_is_cancelled(requests, &taken), CSQ_WHY_CANCEL);
     IS(number_of(value), 1);
     IS(csq_requests_complete(requests, &taken, 0), CSQ_OK);
     IS(csq_requests_cancel(requests, second, &value), CSQ_STALE);
@@ -180,29 +180,30 @@ static void what_a_cancel_has_named_is_not_put_back(uint32_t list) {
  * csq_requests_is_cancelled says then. */
 struct intruder {
     struct csq_requests *requests;
-    uint32_t cancelled;
+    uint32_t why;
     uint32_t comes;
 };
 
-static void come_in_between(void *context, struct csq_irp name, void *value) {
+static void come_in_between(void *context, const struct csq_ending *ending) {
     static const uint32_t statuses[] = { CSQ_STATUS_SUCCESS, CSQ_STATUS_PENDING,
                                          CSQ_STATUS_CANCELLED };
     struct intruder *intruder = context;
     struct csq_requests *requests = intruder->requests;
-    struct csq_request late = { name, 0, value };
+    struct csq_request late = { ending->name, ending->file, ending->value };
     void *none = NULL;
     for (int at = 0; at < 3; at++) {
         IS(csq_requests_complete(requests, &late, statuses[at]), CSQ_NOT_HELD);
         IS(csq_requests_put_back(requests, &late, (uint32_t)at % 2), CSQ_NOT_HELD);
     }
-    IS(csq_requests_is_cancelled(requests, &late), intruder->cancelled);
-    IS(csq_requests_cancel(requests, name, &none), CSQ_NONE);
+    IS(ending->why, intruder->why);
+    IS(csq_requests_is_cancelled(requests, &late), intruder->why);
+    IS(csq_requests_cancel(requests, ending->name, &none), CSQ_NONE);
     CHECK(!none);
     IS(under_way(requests, 0), 1);
     intruder->comes++;
 }
 
-/* The four calls that end a request which is listed. */
+/* The five calls that end a request which is listed. */
 static uint32_t end_by_cancel(struct csq_requests **requests, struct csq_irp name) {
     void *value = NULL;
     uint32_t code = csq_requests_cancel(*requests, name, &value);
@@ -217,22 +218,31 @@ static uint32_t end_by_cleanup(struct csq_requests **requests, struct csq_irp na
     (void)name;
     return csq_requests_cleanup(*requests, 0, 0);
 }
+static uint32_t end_by_due(struct csq_requests **requests, struct csq_irp name) {
+    (void)name;
+    return csq_requests_tick(*requests, 7) == CSQ_FOREVER ? CSQ_OK : CSQ_NONE;
+}
 static uint32_t end_by_free(struct csq_requests **requests, struct csq_irp name) {
     (void)name;
     return csq_requests_free(requests);
 }
 
 static void what_is_being_ended_is_nobody_elses_to_end(uint32_t list) {
-    uint32_t (*const ends[])(struct csq_requests **, struct csq_irp) = {
-        end_by_cancel, end_by_drain, end_by_cleanup, end_by_free
+    static const struct {
+        uint32_t (*end)(struct csq_requests **, struct csq_irp);
+        uint32_t why;
+    } rows[] = {
+        { end_by_cancel, CSQ_WHY_CANCEL },   { end_by_drain, CSQ_WHY_DRAIN },
+        { end_by_cleanup, CSQ_WHY_CLEANUP }, { end_by_due, CSQ_WHY_DUE },
+        { end_by_free, CSQ_WHY_FREE },
     };
-    for (int at = 0; at < 4; at++) {
-        struct intruder intruder = { NULL, ends[at] == end_by_cancel, 0 };
+    for (size_t at = 0; at < sizeof rows / sizeof *rows; at++) {
+        struct intruder intruder = { NULL, rows[at].why, 0 };
         struct csq_requests_events events = { come_in_between, NULL, &intruder };
         struct csq_requests *requests = intruder.requests = made(2, list, &events);
-        struct csq_irp name = submit(requests, 1, 0, 0);
+        struct csq_irp name = submit_until(requests, 1, 0, 7);
         struct csq_request late = { name, 0, NULL };
-        IS(ends[at](&requests, name), CSQ_OK);
+        IS(rows[at].end(&requests, name), CSQ_OK);
         IS(intruder.comes, 1);
         if (!requests) {
             continue;
@@ -373,49 +383,19 @@ static void the_first_cause_of_a_refused_submit_is_told(uint32_t list) {
         { 2, 2, 0, 0, 0, 0, 0, 1, CSQ_ANY, CSQ_UNKNOWN_FILE },
         { 1, 1, 1, 0, 0, 0, 0, 1, 0, CSQ_CLOSED },
         { 1, 1, 0, 1, 0, 0, 0, 1, 0, CSQ_CLOSED },
-        { 1, 1, 1, 0, 0, 0, 1, 0, 0, CSQ_LIVES_SPENT },
-        { 1, 1, 0, 1, 0, 0, 1, 0, 0, CSQ_FULL },
-        { 1, 1, 0, 0, 0, 1, 0, 0, 0, CSQ_FULL },
+        { 1, 1, 0, 0, 0, 0, 1, 1, 0, CSQ_CLOSED },
+        { 1, 1, 1, 0, 0, 0, 1, 0, 0, CSQ_FILE_CLOSED },
+        { 1, 1, 0, 1, 0, 0, 1, 0, 0, CSQ_FILE_CLOSED },
         { 2, 1, 0, 0, 1, 0, 1, 0, 0, CSQ_FILE_CLOSED },
+        { 1, 1, 1, 0, 0, 0, 0, 0, 0, CSQ_LIVES_SPENT },
+        { 1, 1, 0, 1, 0, 0, 0, 0, 0, CSQ_FULL },
+        { 1, 1, 0, 0, 0, 1, 0, 0, 0, CSQ_FULL },
         { 2, 1, 0, 0, 0, 1, 0, 0, 0, CSQ_FILE_FULL },
         { 2, 1, 0, 0, 1, 0, 0, 0, 0, CSQ_FULL },
     };
     for (size_t at = 0; at < sizeof rows / sizeof *rows; at++) {
         refuse_by_the_first(&rows[at], list);
     }
-}
-
-static uint32_t last_status(struct csq_requests *requests, struct csq_irp name) {
-    uint32_t life = UNWRITTEN, status = UNWRITTEN;
-    IS(csq_read_status(&requests->pass, name.irp, &life, &status), CSQ_OK);
-    IS(life, CSQ_LAST_LIFE);
-    return status;
-}
-
-/* In its last life an IRP keeps its status. */
-static void each_way_ends_with_its_status(uint32_t list) {
-    struct csq_requests *requests = NULL;
-    struct csq_size size = size_of(4, 1, list);
-    struct csq_request taken[2];
-    struct csq_irp cancelled, drained;
-    void *value = NULL;
-    size.first_life = CSQ_LAST_LIFE;
-    IS(csq_requests_new(&requests, &size, NULL, NULL), CSQ_OK);
-    for (int at = 0; at < 2; at++) {
-        submit(requests, at, 0, 0);
-        IS(next(requests, CSQ_ANY, &taken[at]), (uint32_t)at);
-    }
-    cancelled = submit(requests, 2, 0, 0);
-    drained = submit(requests, 3, 0, 0);
-    IS(csq_requests_cancel(requests, cancelled, &value), CSQ_OK);
-    IS(csq_requests_drain(requests, 0, 0), CSQ_HOLDING);
-    IS(csq_requests_complete(requests, &taken[0], CSQ_STATUS_FILE_CLOSED), CSQ_OK);
-    IS(csq_requests_complete(requests, &taken[1], CSQ_STATUS_CANCELLED), CSQ_OK);
-    IS(last_status(requests, taken[0].name), CSQ_STATUS_FILE_CLOSED);
-    IS(last_status(requests, taken[1].name), CSQ_STATUS_CANCELLED);
-    IS(last_status(requests, cancelled), CSQ_STATUS_CANCELLED);
-    IS(last_status(requests, drained), CSQ_STATUS_CANCELLED);
-    IS(csq_requests_free(&requests), CSQ_OK);
 }
 
 /* The IRP that has been free longest is used next, so that none is spent before the others. */
@@ -480,7 +460,6 @@ int main(void) {
     RUN_BOTH(lives_end);
     RUN_BOTH(what_is_over_is_not_cancelled);
     RUN_BOTH(the_first_cause_of_a_refused_submit_is_told);
-    RUN_BOTH(each_way_ends_with_its_status);
     RUN_BOTH(irps_wear_evenly);
     RUN_BOTH(a_close_leaves_what_is_listed);
     return DONE();

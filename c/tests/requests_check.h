@@ -12,11 +12,12 @@
 
 enum { SHORT = 20, LONG = 60000, FILES = 3 }; /* milliseconds, and the file objects of each queue */
 
-/* What the events were called with: the values, or 100 more after the completion. */
+/* What the events were called with: the values, or 100 more after the completion; and the last. */
 struct report {
     struct csq_requests *requests;
     uint32_t events[16];
     uint32_t count;
+    struct csq_ending last;
 };
 
 static int numbers[64];
@@ -30,7 +31,7 @@ static inline uint32_t number_of(const void *value) {
     return (uint32_t)*(const int *)value;
 }
 
-static inline void note(void *context, struct csq_irp name, void *value, uint32_t more,
+static inline void note(void *context, const struct csq_ending *ending, uint32_t more,
                         uint32_t under_way) {
     struct report *report = context;
     uint32_t listed = UNWRITTEN, all = UNWRITTEN;
@@ -38,14 +39,16 @@ static inline void note(void *context, struct csq_irp name, void *value, uint32_
     /* It isn't listed, and the mutex is free. */
     IS(csq_requests_len(report->requests, CSQ_ANY, &listed, &all), CSQ_OK);
     CHECK(all >= under_way);
-    IS(csq_requests_cancel(report->requests, name, &none), under_way ? CSQ_NONE : CSQ_STALE);
-    report->events[report->count++ % 16] = number_of(value) + more;
+    IS(csq_requests_cancel(report->requests, ending->name, &none),
+       under_way ? CSQ_NONE : CSQ_STALE);
+    report->events[report->count++ % 16] = number_of(ending->value) + more;
+    report->last = *ending;
 }
-static inline void note_before(void *context, struct csq_irp name, void *value) {
-    note(context, name, value, 0, 1);
+static inline void note_before(void *context, const struct csq_ending *ending) {
+    note(context, ending, 0, 1);
 }
-static inline void note_after(void *context, struct csq_irp name, void *value) {
-    note(context, name, value, 100, 0);
+static inline void note_after(void *context, const struct csq_ending *ending) {
+    note(context, ending, 100, 0);
 }
 
 static inline struct csq_requests *made(uint32_t irps, uint32_t list,
@@ -71,10 +74,25 @@ static inline void the_events_were(const struct report *report, const uint32_t *
     }
 }
 
+/* Why the last request ended, and with which word. */
+static inline void it_ended(const struct report *report, uint32_t why, const void *word) {
+    IS(report->last.why, why);
+    CHECK(report->last.word == word);
+}
+
 static inline struct csq_irp submit(struct csq_requests *requests, int value, uint32_t file,
                                     uint32_t front) {
     struct csq_irp name = { UNWRITTEN, UNWRITTEN };
     IS(csq_requests_submit(requests, number(value), file, front, &name), CSQ_OK);
+    return name;
+}
+
+/* The same with a deadline. */
+static inline struct csq_irp submit_until(struct csq_requests *requests, int value, uint32_t file,
+                                          uint64_t due) {
+    struct csq_submit made = { number(value), file, 0, 0, due };
+    struct csq_irp name = { UNWRITTEN, UNWRITTEN };
+    IS(csq_requests_submit_with(requests, &made, &name), CSQ_OK);
     return name;
 }
 

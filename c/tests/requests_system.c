@@ -1,15 +1,17 @@
-/* csq_requests.h over a system that refuses each thing that csq_requests_new takes, and whose clock
- * stands still. Macros lead its calls here. */
+/* The code of csq_requests.h over a system that refuses each thing that its calls take, and whose
+ * clock stands still. Macros lead its calls here. */
 #define _POSIX_C_SOURCE 200809L
-#include "csq.h"
+#include "csq_ledger.h"
 
 #include <errno.h>
 #include <pthread.h>
 #include <stdlib.h>
+#include <sys/eventfd.h>
 #include <time.h>
+#include <unistd.h>
 
 /* How many of each kind are out. */
-enum kind { BLOCK, QUEUE, PASS, ATTRIBUTES, SIGNAL, MUTEX, KINDS };
+enum kind { BLOCK, LEDGER, ATTRIBUTES, SIGNAL, MUTEX, EVENTFD, THREAD, KINDS };
 static long out[KINDS];
 
 /* How many were asked for, and which of them is refused: 0 is none. */
@@ -35,6 +37,11 @@ static void *counted(void *block) {
     return block;
 }
 
+static int opened(int fd) {
+    out[EVENTFD] += fd >= 0;
+    return fd;
+}
+
 static void freed(void *block) {
     out[BLOCK] -= block != NULL;
     free(block);
@@ -54,22 +61,27 @@ static int read_clock(clockid_t clock, struct timespec *now) {
 #define clock_gettime(clock, now) (read_clock(clock, now) == 0 ? (void)0 : abort())
 
 #define TAKEN(kind, code, call) (refuses() ? (code) : taken(kind, (uint32_t)(call)))
-#define csq_new(...) TAKEN(QUEUE, CSQ_NO_MEMORY, csq_new(__VA_ARGS__))
-#define csq_new_with_file_limits(...) \
-    TAKEN(QUEUE, CSQ_NO_MEMORY, csq_new_with_file_limits(__VA_ARGS__))
-#define csq_take_pass(...) TAKEN(PASS, CSQ_NO_MEMORY, csq_take_pass(__VA_ARGS__))
+#define csq_ledger_new(...) TAKEN(LEDGER, CSQ_NO_MEMORY, csq_ledger_new(__VA_ARGS__))
+#define csq_ledger_new_with_file_limits(...) \
+    TAKEN(LEDGER, CSQ_NO_MEMORY, csq_ledger_new_with_file_limits(__VA_ARGS__))
+#define pthread_create(...) TAKEN(THREAD, EAGAIN, pthread_create(__VA_ARGS__))
+#define eventfd(...) (refuses() ? -1 : opened(eventfd(__VA_ARGS__)))
 #define pthread_condattr_init(...) TAKEN(ATTRIBUTES, ENOMEM, pthread_condattr_init(__VA_ARGS__))
 #define pthread_cond_init(...) TAKEN(SIGNAL, EAGAIN, pthread_cond_init(__VA_ARGS__))
 #define pthread_mutex_init(...) TAKEN(MUTEX, EAGAIN, pthread_mutex_init(__VA_ARGS__))
 
-/* Of an empty handle too it returns CSQ_OK. */
-#define csq_free(queue) given(QUEUE, (queue)->at ? csq_free(queue) : (uint32_t)CSQ_EMPTY_HANDLE)
-#define csq_give_back(...) given(PASS, csq_give_back(__VA_ARGS__))
+#define csq_ledger_free(...) given(LEDGER, csq_ledger_free(__VA_ARGS__))
+#define pthread_join(...) given(THREAD, (uint32_t)pthread_join(__VA_ARGS__))
+#define close(...) given(EVENTFD, (uint32_t)close(__VA_ARGS__))
 #define pthread_condattr_destroy(...) \
     given(ATTRIBUTES, (uint32_t)pthread_condattr_destroy(__VA_ARGS__))
 #define pthread_cond_destroy(...) given(SIGNAL, (uint32_t)pthread_cond_destroy(__VA_ARGS__))
 #define pthread_mutex_destroy(...) given(MUTEX, (uint32_t)pthread_mutex_destroy(__VA_ARGS__))
 
+#include "../requests/calls.c"
+#include "../requests/ends.c"
+#include "../requests/make.c"
+#include "../requests/wait.c"
 #include "requests_check.h"
 
 static void nothing_is_out(void) {
@@ -106,10 +118,10 @@ static unsigned refuse_each(uint32_t list, const uint32_t *limits) {
 
 static void a_queue_that_is_refused_something_keeps_nothing(uint32_t list) {
     static const uint32_t limits[FILES] = { 1, 2, 3 };
-    /* Four blocks, a queue and its pass, a mutex, the signal of the drains, those of each file
-     * object and of all, and their attributes. */
-    IS(refuse_each(list, NULL), 4 + 2 + 2 + FILES + 1 + 1);
-    IS(refuse_each(list, limits), 4 + 2 + 2 + FILES + 1 + 1);
+    /* Three blocks, a ledger, a mutex, and two signals with their attributes of the queue, of each
+     * file object and of all. */
+    IS(refuse_each(list, NULL), 3 + 1 + 1 + (1 + FILES + 1) * 3);
+    IS(refuse_each(list, limits), 3 + 1 + 1 + (1 + FILES + 1) * 3);
 }
 
 /* One request's whole way, and the ends of others. */
@@ -143,7 +155,7 @@ static void a_time_ends_so_many_milliseconds_later(void) {
         { CSQ_FOREVER - 1, 7 + 4294967 + 1, 293999999 }
     };
     for (size_t at = 0; at < sizeof rows / sizeof *rows; at++) {
-        struct timespec end = csq_requests_end_of(rows[at].milliseconds);
+        struct timespec end = requests_limit_of(rows[at].milliseconds).end;
         IS((unsigned long)end.tv_sec, (unsigned long)rows[at].seconds);
         IS((unsigned long)end.tv_nsec, (unsigned long)rows[at].nanoseconds);
     }
@@ -167,7 +179,28 @@ static void a_limit_is_from_the_call_on(uint32_t list) {
     IS(csq_requests_free(&requests), CSQ_OK);
 }
 
+/* What the calls for event loops and the clock take is given back with the queue. */
+static void what_is_refused_later_is_told(uint32_t list) {
+    struct csq_requests *requests = made(2, list, NULL);
+    int fd = -7;
+    refused = asked + 1;
+    IS(csq_requests_fd(requests, 0, &fd), CSQ_NO_MEMORY);
+    refused = asked + 1;
+    IS(csq_requests_room_fd(requests, CSQ_ANY, &fd), CSQ_NO_MEMORY);
+    refused = asked + 1;
+    IS(csq_requests_start_clock(requests), CSQ_NO_MEMORY);
+    IS((unsigned)fd, (unsigned)-7);
+    refused = 0;
+    IS(csq_requests_fd(requests, 0, &fd), CSQ_OK);
+    IS(csq_requests_room_fd(requests, CSQ_ANY, &fd), CSQ_OK);
+    IS(csq_requests_start_clock(requests), CSQ_OK);
+    IS(csq_requests_start_clock(requests), CSQ_NOT_EMPTY);
+    IS(csq_requests_free(&requests), CSQ_OK);
+    nothing_is_out();
+}
+
 int main(void) {
+    RUN_BOTH(what_is_refused_later_is_told);
     RUN_BOTH(a_queue_that_is_refused_something_keeps_nothing);
     RUN_BOTH(no_other_call_takes_anything);
     RUN(a_time_ends_so_many_milliseconds_later);

@@ -1,5 +1,6 @@
 /* The calls of csq_requests.h by threads that wait, cancel, put back and drain. The argument is the
  * number of requests of each submitter. */
+#include "../requests/requests.h"
 #include "requests_check.h"
 
 #include <sched.h>
@@ -58,7 +59,7 @@ static void rest(void) {
 
 /* Until so many workers and drains wait for a file object, or for any. */
 static void until_it_waits(struct csq_requests *requests, uint32_t file, uint32_t count) {
-    const struct csq_requests_file *of = csq_requests_file_of(requests, file);
+    const struct requests_file *of = requests_file(requests, file);
     struct timespec start;
     uint32_t waiting = 0;
     clock_gettime(CLOCK_MONOTONIC, &start);
@@ -111,15 +112,14 @@ static void a_submit_wakes_one_who_waits_for_it(uint32_t list) {
 static void each_submit_wakes_another_one(uint32_t list) {
     struct csq_requests *requests = made(4, list, NULL);
     struct worker workers[2];
-    struct csq_irp name;
+    struct csq_submit submits[] = { { number(1), 1, 0, 0, 0 }, { number(2), 1, 0, 0, 0 } };
+    struct csq_irp names[2];
+    uint32_t submitted = 0;
     start(&workers[0], requests, CSQ_ANY);
     start(&workers[1], requests, 1);
     until_it_waits(requests, CSQ_ANY, 1);
     until_it_waits(requests, 1, 1);
-    pthread_mutex_lock(&requests->mutex);
-    IS(csq_requests_list(requests, number(1), 1, 0, &name), CSQ_OK);
-    IS(csq_requests_list(requests, number(2), 1, 0, &name), CSQ_OK);
-    pthread_mutex_unlock(&requests->mutex);
+    IS(csq_requests_submit_many(requests, submits, 2, names, &submitted), CSQ_OK);
     for (int at = 0; at < 2; at++) {
         IS((unsigned)pthread_join(workers[at].thread, NULL), 0);
         IS(workers[at].code, CSQ_OK);
@@ -193,7 +193,7 @@ static void a_drain_waits_after_a_close_too(uint32_t list) {
 /* The end of a wait is a time: less than a second of nanoseconds, whatever the clock says now. */
 static void the_end_of_a_wait_is_a_time(void) {
     for (uint32_t milliseconds = 1; milliseconds < 3000; milliseconds++) {
-        CHECK(csq_requests_end_of(milliseconds).tv_nsec < 1000000000);
+        CHECK(requests_limit_of(milliseconds).end.tv_nsec < 1000000000);
     }
 }
 
@@ -270,10 +270,9 @@ static void until_it_is_set(const atomic_uint *flag) {
     CHECK(atomic_load(flag));
 }
 
-static void let_it_come(void *context, struct csq_irp name, void *value) {
+static void let_it_come(void *context, const struct csq_ending *ending) {
     struct late *late = context;
-    (void)name;
-    (void)value;
+    (void)ending;
     late->is_ending = 1;
     until_it_is_set(&late->came);
 }
@@ -339,7 +338,7 @@ static void begin(struct worker *worker, struct csq_requests *requests, void *(*
  * is started again. */
 static void hold_up(struct worker *worker, struct csq_requests *requests,
                     void *(*routine)(void *)) {
-    const struct csq_requests_file *of = csq_requests_file_of(requests, 0);
+    const struct requests_file *of = requests_file(requests, 0);
     begin(worker, requests, routine);
     pthread_mutex_lock(&requests->mutex);
     while (of->waiting + of->draining == 0 && !check_failed) {
@@ -361,13 +360,14 @@ static void who_runs_out_of_time_looks_once_more(uint32_t list) {
     struct csq_requests *requests = made(2, list, NULL);
     struct worker worker;
     struct csq_irp name = { 0, 0 };
+    struct csq_ended ended;
     hold_up(&worker, requests, wait_a_little);
-    IS(csq_requests_list(requests, number(5), 0, 0, &name), CSQ_OK);
+    IS(csq_ledger_begin(&requests->ledger, 0, 0, CSQ_NEVER, &name), CSQ_OK);
+    requests->values[name.irp] = number(5);
     pthread_mutex_unlock(&requests->mutex);
     end_of(&worker, CSQ_OK, 5);
     hold_up(&worker, requests, drain_a_little);
-    IS(csq_complete(&requests->pass, name, 0), CSQ_OK);
-    csq_requests_release(requests, name);
+    IS(csq_ledger_finish(&requests->ledger, name, 0, &ended), CSQ_OK);
     pthread_mutex_unlock(&requests->mutex);
     end_of(&worker, CSQ_OK, 0);
     IS(csq_requests_free(&requests), CSQ_OK);
@@ -400,9 +400,9 @@ static void comes_late(struct csq_requests *requests, struct csq_irp name) {
     fault_unless(csq_requests_put_back(requests, &late, 0) == CSQ_NOT_HELD);
 }
 
-static void count_drained(void *context, struct csq_irp name, void *value) {
-    comes_out(name, value, &drained);
-    comes_late(*(struct csq_requests **)context, name);
+static void count_drained(void *context, const struct csq_ending *ending) {
+    comes_out(ending->name, ending->value, &drained);
+    comes_late(*(struct csq_requests **)context, ending->name);
 }
 
 /* Of a cancel too: its value comes by the event, and is the same that the call stores. */

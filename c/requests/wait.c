@@ -1,0 +1,193 @@
+/* csq_requests.h: who waits, who is woken, and who is told once the mutex is free. */
+#include "requests.h"
+
+#include <errno.h>
+#include <sched.h>
+#include <unistd.h>
+
+enum { YIELDS = 4 };
+
+void requests_unlock_and_do(struct csq_requests *it) {
+    static const struct requests_later nothing = { 0, 0, { 0 }, NULL };
+    struct requests_later later = it->later;
+    uint32_t at;
+    it->later = nothing;
+    pthread_mutex_unlock(&it->mutex);
+    for (at = 0; at < later.write_count; at++) {
+        const uint64_t one = 1;
+        ssize_t written = write(later.writes[at], &one, sizeof one);
+        (void)written; /* never refused: the number is far from its end */
+    }
+    while (later.quiets) {
+        struct csq_quiet *quiet = later.quiets;
+        later.quiets = quiet->next; /* its memory is the caller's again */
+        quiet->quiet(quiet);
+    }
+}
+
+struct requests_limit requests_limit_of(uint32_t milliseconds) {
+    struct requests_limit limit = { milliseconds, { 0, 0 }, YIELDS, milliseconds == 0 };
+    if (milliseconds == 0 || milliseconds == CSQ_FOREVER) {
+        return limit;
+    }
+    clock_gettime(CLOCK_MONOTONIC, &limit.end);
+    limit.end.tv_sec += (time_t)(milliseconds / 1000);
+    limit.end.tv_nsec += (long)(milliseconds % 1000) * 1000000;
+    if (limit.end.tv_nsec >= 1000000000) {
+        limit.end.tv_sec++;
+        limit.end.tv_nsec -= 1000000000;
+    }
+    return limit;
+}
+
+int requests_sleep(struct csq_requests *it, pthread_cond_t *signal, const struct timespec *end) {
+    if (end) {
+        return pthread_cond_timedwait(signal, &it->mutex, end) == ETIMEDOUT;
+    }
+    pthread_cond_wait(signal, &it->mutex);
+    return 0;
+}
+
+uint32_t requests_pause(struct csq_requests *it, struct requests_limit *limit,
+                        pthread_cond_t *signal, uint32_t *sleepers) {
+    /* A sleep frees the mutex as it is, so what is to be done then comes before. */
+    if (limit->yields > 0 || it->later.is_any) {
+        limit->yields -= limit->yields > 0;
+        requests_unlock(it);
+        sched_yield();
+        requests_lock(it);
+        return 0;
+    }
+    ++*sleepers;
+    it->watchers++;
+    limit->over =
+        requests_sleep(it, signal, limit->milliseconds == CSQ_FOREVER ? NULL : &limit->end);
+    it->watchers--;
+    --*sleepers;
+    return 1;
+}
+
+/* ---- Eventfds ---- */
+
+void requests_raise(struct csq_requests *it, struct requests_fd *fd) {
+    struct requests_later *later = &it->later;
+    if (!fd->above || fd->readable) {
+        return;
+    }
+    fd->readable = 1;
+    fd->unread++;
+    if (later->write_count == REQUESTS_WRITES) {
+        const uint64_t one = 1;
+        ssize_t written = write(fd->above - 1, &one, sizeof one);
+        (void)written;
+    } else {
+        later->is_any = 1;
+        later->writes[later->write_count++] = fd->above - 1;
+    }
+}
+
+/* A write that another thread has yet to make is read the next time. */
+void requests_lower(struct requests_fd *fd) {
+    uint64_t count = 0;
+    if (fd->unread > 0 && read(fd->above - 1, &count, sizeof count) == (ssize_t)sizeof count) {
+        fd->unread -= count;
+    }
+    fd->readable = 0;
+}
+
+/* ---- Who is woken ---- */
+
+static void wake_drains(struct csq_requests *it, uint32_t file) {
+    if (requests_file(it, file)->draining + requests_file(it, CSQ_ANY)->draining > 0) {
+        pthread_cond_broadcast(&it->drains);
+    }
+}
+
+static void wake_worker(struct csq_requests *it, uint32_t file) {
+    struct requests_file *of = requests_file(it, file);
+    if (of->waiting > 0) {
+        pthread_cond_signal(&of->listed);
+    }
+    requests_raise(it, &of->fds[REQUESTS_LISTED]);
+}
+
+static void wake_submit(struct csq_requests *it, uint32_t file) {
+    struct requests_file *of = requests_file(it, file);
+    if (of->wanting > 0) {
+        pthread_cond_signal(&of->room);
+    }
+    requests_raise(it, &of->fds[REQUESTS_ROOM]);
+}
+
+/* The drain that was started last for a file object, or else for any, and isn't over. */
+static const struct csq_quiet *drain_of(struct csq_requests *it, uint32_t file) {
+    const struct csq_quiet *quiet = requests_file(it, file)->quiets;
+    return quiet ? quiet : requests_file(it, CSQ_ANY)->quiets;
+}
+
+void requests_look_for_takers(struct csq_requests *it, uint32_t file) {
+    const struct csq_quiet *quiet = drain_of(it, file);
+    struct csq_irp name = { 0, 0 };
+    uint32_t of_file = file;
+    if (!quiet) {
+        wake_worker(it, file);
+        wake_worker(it, CSQ_ANY);
+        wake_drains(it, file);
+    }
+    while (quiet &&
+           csq_ledger_drain_next(&it->ledger, file, quiet->why, &name, &of_file) == CSQ_OK) {
+        requests_end(it, name, quiet->word);
+        quiet = drain_of(it, file);
+    }
+}
+
+/* A submit that waits for a number waits on if none is free. */
+void requests_look_for_submits(struct csq_requests *it, uint32_t file) {
+    uint32_t listed = 0, under_way = 0;
+    wake_submit(it, file);
+    csq_ledger_len(&it->ledger, CSQ_ANY, &listed, &under_way);
+    if (under_way < it->irps) {
+        wake_submit(it, CSQ_ANY);
+    }
+}
+
+void requests_refuses(struct csq_requests *it, uint32_t file) {
+    const uint32_t both[] = { file, CSQ_ANY };
+    uint32_t at;
+    for (at = 0; at < 2; at++) {
+        struct requests_file *of = requests_file(it, both[at]);
+        pthread_cond_broadcast(&of->room);
+        requests_raise(it, &of->fds[REQUESTS_ROOM]);
+    }
+}
+
+/* ---- Who is told ---- */
+
+int requests_none_under_way(struct csq_requests *it, uint32_t file) {
+    uint32_t listed = 0, under_way = 0;
+    return csq_ledger_len(&it->ledger, file, &listed, &under_way) == CSQ_OK && under_way == 0;
+}
+
+void requests_tell_quiet(struct csq_requests *it, uint32_t file) {
+    struct requests_file *of = requests_file(it, file);
+    if (!of->quiets || of->telling > 0 || !requests_none_under_way(it, file)) {
+        return;
+    }
+    while (of->quiets) {
+        struct csq_quiet *quiet = of->quiets;
+        of->quiets = quiet->next;
+        it->watchers--;
+        quiet->next = it->later.quiets;
+        it->later.quiets = quiet;
+        it->later.is_any = 1;
+    }
+}
+
+void requests_look_for_ends(struct csq_requests *it, const struct csq_ended *ended) {
+    wake_submit(it, CSQ_ANY);
+    if (ended->file_is_quiet) { /* as it is if all are */
+        wake_drains(it, ended->file);
+        requests_tell_quiet(it, ended->file);
+        requests_tell_quiet(it, CSQ_ANY);
+    }
+}
