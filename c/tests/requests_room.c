@@ -1,0 +1,285 @@
+/* Submits of csq_requests.h that wait for room, the clock, and shares of a batch, by threads. */
+#include "../requests/requests.h"
+#include "requests_check.h"
+
+#include <sched.h>
+
+/* A submit that waits for room in a thread of its own. */
+struct submitter {
+    struct csq_requests *requests;
+    struct csq_submit how;
+    struct csq_irp name;
+    uint32_t code;
+    uint64_t took; /* milliseconds */
+    pthread_t thread;
+};
+
+static void *submit_it(void *of) {
+    struct submitter *it = of;
+    const uint64_t began = csq_requests_now();
+    it->code = csq_requests_submit_with(it->requests, &it->how, &it->name);
+    it->took = csq_requests_now() - began;
+    return NULL;
+}
+
+static void start(struct submitter *it, struct csq_requests *requests, int value, uint32_t file) {
+    struct submitter made = { requests, { number(value), file, 0, LONG, 0 }, { 0, 0 }, 0, 0, 0 };
+    memcpy(it, &made, sizeof made);
+    IS((unsigned)pthread_create(&it->thread, NULL, submit_it, it), 0);
+}
+
+/* It was woken: what it waited for would be found also after the whole time. */
+static void end_of(struct submitter *it, uint32_t code) {
+    IS((unsigned)pthread_join(it->thread, NULL), 0);
+    IS(it->code, code);
+    CHECK(it->took < LONG);
+}
+
+/* Until so many submits sleep for room of a file object, or for a number. */
+static void until_it_waits(struct csq_requests *requests, uint32_t file, uint32_t count) {
+    const struct requests_file *of = requests_file(requests, file);
+    const uint64_t began = csq_requests_now();
+    uint32_t wanting = 0;
+    while (wanting < count && csq_requests_now() - began < LONG) {
+        pthread_mutex_lock(&requests->mutex);
+        wanting = of->wanting;
+        pthread_mutex_unlock(&requests->mutex);
+        sched_yield();
+    }
+    CHECK(wanting >= count);
+}
+
+/* Two numbers; the first file object may have one listed. */
+static struct csq_requests *narrow(uint32_t list, uint32_t first_life) {
+    static const uint32_t limits[FILES] = { 1, 2, 2 };
+    struct csq_requests *requests = NULL;
+    struct csq_size size = size_of(2, FILES, list);
+    size.first_life = first_life;
+    IS(csq_requests_new(&requests, &size, limits, NULL), CSQ_OK);
+    return requests;
+}
+
+static void a_submit_waits_for_its_time(uint32_t list) {
+    struct csq_requests *requests = narrow(list, 0);
+    struct csq_submit how = { number(2), 0, 0, SHORT, 0 };
+    struct csq_irp name = submit(requests, 1, 0, 0);
+    struct csq_requests_stats stats = { sizeof stats, 0, 0, 0, 0, 0, { 0 }, 0, 0, 0, 0 };
+    const uint64_t began = csq_requests_now();
+    IS(csq_requests_submit_with(requests, &how, &name), CSQ_FILE_FULL);
+    CHECK(csq_requests_now() - began >= SHORT - 1);
+    IS(csq_requests_read_stats(requests, &stats), CSQ_OK);
+    CHECK(stats.waits_for_room >= 1);
+    IS(stats.file_full, 1);
+    how.milliseconds = CSQ_FOREVER;
+    how.file = FILES;
+    IS(csq_requests_submit_with(requests, &how, &name), CSQ_UNKNOWN_FILE);
+    csq_requests_close(requests);
+    how.file = 0;
+    IS(csq_requests_submit_with(requests, &how, &name), CSQ_CLOSED);
+    IS(csq_requests_free(&requests), CSQ_OK);
+}
+
+/* What makes room, and for whom: each row waits for room of file object 0 or for a number, and is
+ * woken by one act. */
+enum act { REMOVE, CANCEL, COMPLETE, CLEAN_UP, CLOSE };
+
+static void act(struct csq_requests *requests, enum act act, const struct csq_request *taken,
+                struct csq_irp listed) {
+    struct csq_request request;
+    void *value = NULL;
+    if (act == REMOVE) {
+        IS(csq_requests_next(requests, 0, 0, &request), CSQ_OK);
+    } else if (act == CANCEL) {
+        IS(csq_requests_cancel(requests, listed, &value), CSQ_OK);
+    } else if (act == COMPLETE) {
+        IS(csq_requests_complete(requests, taken, 0), CSQ_OK);
+    } else if (act == CLEAN_UP) {
+        IS(csq_requests_cleanup(requests, 0, 0), CSQ_OK);
+    } else {
+        csq_requests_close(requests);
+    }
+}
+
+/* Whatever is listed or taken ends, and the queue is freed. */
+static void finish(struct csq_requests *requests, const struct csq_request *taken) {
+    struct csq_request request;
+    uint32_t code = csq_requests_complete(requests, taken, 0);
+    CHECK(code == CSQ_OK || code == CSQ_NOT_HELD);
+    for (uint32_t irp = 0; irp < 2; irp++) {
+        for (uint32_t life = 0; life < 3; life++) {
+            request.name = irp_in(irp, life);
+            code = csq_requests_complete(requests, &request, CSQ_STATUS_CANCELLED);
+        }
+    }
+    IS(csq_requests_free(&requests), CSQ_OK);
+}
+
+static void each_act_wakes_who_waits_for_room(uint32_t list) {
+    static const struct { uint32_t waits_for; enum act act; uint32_t code; } rows[] = {
+        { 0, REMOVE, CSQ_OK },           { 0, CANCEL, CSQ_OK },
+        { 0, CLEAN_UP, CSQ_FILE_CLOSED }, { 0, CLOSE, CSQ_CLOSED },
+        { CSQ_ANY, COMPLETE, CSQ_OK },   { CSQ_ANY, CANCEL, CSQ_OK },
+        { CSQ_ANY, CLOSE, CSQ_CLOSED },
+    };
+    for (size_t at = 0; at < sizeof rows / sizeof *rows; at++) {
+        struct csq_requests *requests = narrow(list, 0);
+        struct csq_request taken = { irp_in(9, 0), 0, NULL };
+        struct submitter submitter;
+        struct csq_irp listed;
+        if (rows[at].waits_for == CSQ_ANY) {
+            submit(requests, 1, 1, 0);
+            IS(next(requests, 1, &taken), 1);
+        } else {
+            taken.name = irp_in(0, 3);
+        }
+        listed = submit(requests, 2, 0, 0);
+        start(&submitter, requests, 3, rows[at].waits_for == CSQ_ANY ? 1 : 0);
+        until_it_waits(requests, rows[at].waits_for, 1);
+        act(requests, rows[at].act, &taken, listed);
+        end_of(&submitter, rows[at].code);
+        finish(requests, &taken);
+    }
+}
+
+/* A cleanup wakes those of its file object that wait for a number, too. */
+static void a_cleanup_wakes_who_waits_for_a_number(uint32_t list) {
+    struct csq_requests *requests = narrow(list, 0);
+    struct csq_request taken[2];
+    struct submitter submitter;
+    for (int at = 0; at < 2; at++) {
+        submit(requests, at, 1, 0);
+        IS(next(requests, 1, &taken[at]), (uint32_t)at);
+    }
+    start(&submitter, requests, 3, 0);
+    until_it_waits(requests, CSQ_ANY, 1);
+    IS(csq_requests_cleanup(requests, 0, 0), CSQ_OK);
+    end_of(&submitter, CSQ_FILE_CLOSED);
+    IS(csq_requests_complete(requests, &taken[0], 0), CSQ_OK);
+    finish(requests, &taken[1]);
+}
+
+/* Once each number is past its last life all who wait are told, one by another. */
+static void all_learn_that_the_lives_are_spent(uint32_t list) {
+    struct csq_requests *requests = narrow(list, CSQ_LAST_LIFE);
+    struct csq_request taken[2];
+    struct submitter submitters[3];
+    for (int at = 0; at < 2; at++) {
+        submit(requests, at, 1, 0);
+        IS(next(requests, 1, &taken[at]), (uint32_t)at);
+    }
+    for (int at = 0; at < 3; at++) {
+        start(&submitters[at], requests, 3 + at, (uint32_t)at);
+    }
+    until_it_waits(requests, CSQ_ANY, 3);
+    IS(csq_requests_complete(requests, &taken[0], 0), CSQ_OK);
+    IS(csq_requests_complete(requests, &taken[1], 0), CSQ_OK);
+    for (int at = 0; at < 3; at++) {
+        end_of(&submitters[at], CSQ_LIVES_SPENT);
+    }
+    IS(csq_requests_free(&requests), CSQ_OK);
+}
+
+/* The first that waits for a number is woken, and finds that its file object has no room: the other
+ * gets the number. */
+static void who_is_woken_and_cannot_use_it_passes_it_on(uint32_t list) {
+    struct csq_requests *requests = narrow(list, 0);
+    struct submitter submitters[2];
+    struct csq_request taken;
+    submit(requests, 1, 1, 0);
+    IS(next(requests, 1, &taken), 1);
+    submit(requests, 2, 0, 0);
+    start(&submitters[0], requests, 3, 0);
+    until_it_waits(requests, CSQ_ANY, 1);
+    start(&submitters[1], requests, 4, 1);
+    until_it_waits(requests, CSQ_ANY, 2);
+    IS(csq_requests_complete(requests, &taken, 0), CSQ_OK);
+    end_of(&submitters[1], CSQ_OK);
+    IS(next(requests, 0, &taken), 2);
+    IS(csq_requests_complete(requests, &taken, 0), CSQ_OK);
+    end_of(&submitters[0], CSQ_OK);
+    IS(csq_requests_drain(requests, CSQ_ANY, 0), CSQ_OK);
+    IS(csq_requests_free(&requests), CSQ_OK);
+}
+
+/* ---- The clock ---- */
+
+static void until_none_is_under_way(struct csq_requests *requests) {
+    const uint64_t began = csq_requests_now();
+    while (under_way(requests, CSQ_ANY) > 0 && csq_requests_now() - began < LONG) {
+        sched_yield();
+    }
+    IS(under_way(requests, CSQ_ANY), 0);
+}
+
+/* It sleeps until the next deadline, or without a limit, and an earlier one wakes it. */
+static void the_clock_cancels_in_time(uint32_t list) {
+    struct report report;
+    struct csq_requests *requests = reported(4, list, &report);
+    struct csq_requests_stats stats = { sizeof stats, 0, 0, 0, 0, 0, { 0 }, 0, 0, 0, 0 };
+    uint64_t began;
+    IS(csq_requests_start_clock(requests), CSQ_OK);
+    IS(csq_requests_start_clock(requests), CSQ_NOT_EMPTY);
+    began = csq_requests_now();
+    submit_until(requests, 1, 0, began + SHORT);
+    until_none_is_under_way(requests);
+    CHECK(csq_requests_now() >= began + SHORT);
+    submit_until(requests, 2, 0, began + LONG);
+    submit_until(requests, 3, 1, began);
+    while (under_way(requests, 1) > 0 && csq_requests_now() - began < LONG) {
+        sched_yield();
+    }
+    IS(under_way(requests, CSQ_ANY), 1);
+    IS(csq_requests_read_stats(requests, &stats), CSQ_OK);
+    IS(stats.ended[CSQ_WHY_DUE], 2);
+    IS(csq_requests_free(&requests), CSQ_OK);
+    it_ended(&report, CSQ_WHY_FREE, NULL);
+    IS(report.count, 6);
+}
+
+/* A queue whose requests aren't all completed has no clock any more, and may have another one. */
+static void a_free_that_is_refused_ends_the_clock(uint32_t list) {
+    struct csq_requests *requests = made(2, list, NULL);
+    struct csq_request taken;
+    submit(requests, 1, 0, 0);
+    IS(next(requests, 0, &taken), 1);
+    IS(csq_requests_start_clock(requests), CSQ_OK);
+    IS(csq_requests_free(&requests), CSQ_HOLDING);
+    IS(csq_requests_start_clock(requests), CSQ_OK);
+    IS(csq_requests_complete(requests, &taken, 0), CSQ_OK);
+    IS(csq_requests_free(&requests), CSQ_OK);
+}
+
+/* ---- Shares ---- */
+
+/* Those that sleep for the same get theirs: as if so many slept. */
+static void a_batch_leaves_the_others_share(uint32_t list) {
+    static const struct { uint32_t listed, asleep, share; } rows[] = {
+        { 6, 0, 6 }, { 6, 1, 3 }, { 6, 2, 2 }, { 7, 2, 3 }, { 1, 5, 1 }, { 5, 9, 1 }
+    };
+    for (size_t at = 0; at < sizeof rows / sizeof *rows; at++) {
+        struct csq_requests *requests = made(8, list, NULL);
+        struct csq_request batch[8];
+        uint32_t taken = 0;
+        for (uint32_t turn = 0; turn < rows[at].listed; turn++) {
+            submit(requests, 1, 1, 0);
+        }
+        requests_file(requests, 1)->waiting = rows[at].asleep;
+        IS(csq_requests_next_many(requests, 1, 0, batch, 8, &taken), CSQ_OK);
+        IS(taken, rows[at].share);
+        requests_file(requests, 1)->waiting = 0;
+        IS(csq_requests_complete_many(requests, batch, taken, 0, &taken), CSQ_OK);
+        IS(csq_requests_free(&requests), CSQ_OK);
+    }
+}
+
+int main(void) {
+    RUN_BOTH(a_submit_waits_for_its_time);
+    RUN_BOTH(each_act_wakes_who_waits_for_room);
+    RUN_BOTH(a_cleanup_wakes_who_waits_for_a_number);
+    RUN_BOTH(all_learn_that_the_lives_are_spent);
+    RUN_BOTH(who_is_woken_and_cannot_use_it_passes_it_on);
+    RUN_BOTH(the_clock_cancels_in_time);
+    RUN_BOTH(a_free_that_is_refused_ends_the_clock);
+    RUN_BOTH(a_batch_leaves_the_others_share);
+    return DONE();
+}
