@@ -315,10 +315,11 @@ CSQ_NODISCARD uint32_t csq_requests_cleanup_start(struct csq_requests *requests,
 
 /* Stores the number of an eventfd, for epoll and poll, that is readable while a request is listed
  * for a file object, or for any with CSQ_ANY, and once the queue is closed. When none is listed any
- * more it stays readable until a csq_requests_next for the same returns CSQ_NONE, so another edge
- * comes only after that. (A submit of another thread may make it readable for nothing then, until
- * the next CSQ_NONE.) It is the queue's, which makes it at the first call and closes it when it is
- * freed; nobody reads or writes it. CSQ_UNKNOWN_FILE; CSQ_NO_MEMORY (the kernel has none). */
+ * more it stays readable until a csq_requests_next or csq_requests_next_many for the same returns
+ * CSQ_NONE, so another edge comes only after that. (A submit of another thread may make it readable
+ * for nothing then, until the next CSQ_NONE.) It is the queue's, which makes it at the first call
+ * and closes it when it is freed; nobody reads or writes it. CSQ_UNKNOWN_FILE; CSQ_NO_MEMORY (the
+ * kernel has none). */
 CSQ_NODISCARD uint32_t csq_requests_fd(struct csq_requests *requests, uint32_t file, int *fd);
 
 /* Stores the number of an eventfd that isn't readable from a submit that returned CSQ_FILE_FULL for

@@ -78,34 +78,26 @@ uint32_t csq_requests_submit(struct csq_requests *it, void *value, uint32_t file
         const struct csq_submit submit = { value, file, front, 0, 0 };
         code = list_later(it, &submit, name, code);
     }
-    requests_unlock(it);
-    return code;
+    return requests_return(it, code);
 }
 
 uint32_t csq_requests_submit_with(struct csq_requests *it, const struct csq_submit *submit,
                                   struct csq_irp *name) {
-    uint32_t code;
     requests_lock(it);
-    code = submit_one(it, submit, name);
-    requests_unlock(it);
-    return code;
+    return requests_return(it, submit_one(it, submit, name));
 }
 
 uint32_t csq_requests_submit_many(struct csq_requests *it, const struct csq_submit *submits,
                                   uint32_t count, struct csq_irp *names, uint32_t *submitted) {
     uint32_t at, code = CSQ_OK;
     requests_lock(it);
-    for (at = 0; at < count; at++) {
+    for (at = 0; at < count && code == CSQ_OK; at++) {
         struct csq_submit submit = submits[at];
         submit.milliseconds = at == 0 ? submit.milliseconds : 0;
         code = submit_one(it, &submit, &names[at]);
-        if (code != CSQ_OK) {
-            break;
-        }
     }
-    *submitted = at;
-    requests_unlock(it);
-    return code;
+    *submitted = code == CSQ_OK ? count : at - 1;
+    return requests_return(it, code);
 }
 
 /* ---- Workers ---- */
@@ -146,11 +138,8 @@ static inline uint32_t take_one(struct csq_requests *it, uint32_t file, uint32_t
 
 uint32_t csq_requests_next(struct csq_requests *it, uint32_t file, uint32_t milliseconds,
                            struct csq_request *request) {
-    uint32_t code;
     requests_lock(it);
-    code = take_one(it, file, milliseconds, request);
-    requests_unlock(it);
-    return code;
+    return requests_return(it, take_one(it, file, milliseconds, request));
 }
 
 /* How many more a worker takes that has taken one: its part of what is listed beside. */
@@ -163,27 +152,19 @@ static uint32_t share_of(struct csq_requests *it, uint32_t file) {
 
 uint32_t csq_requests_next_many(struct csq_requests *it, uint32_t file, uint32_t milliseconds,
                                 struct csq_request *batch, uint32_t most, uint32_t *taken) {
-    uint32_t code, count = 0, share;
+    uint32_t code, share;
     *taken = 0;
-    if (!requests_knows(it, file)) {
-        return CSQ_UNKNOWN_FILE;
-    }
-    if (most == 0) {
-        return CSQ_BAD_SIZE;
+    if (most == 0 || !requests_knows(it, file)) {
+        return requests_knows(it, file) ? CSQ_BAD_SIZE : CSQ_UNKNOWN_FILE;
     }
     requests_lock(it);
     code = take_one(it, file, milliseconds, &batch[0]);
-    if (code == CSQ_OK) {
-        share = share_of(it, file);
-        for (count = 1; count < most && count <= share; count++) {
-            if (take_one(it, file, 0, &batch[count]) != CSQ_OK) {
-                break;
-            }
-        }
-        *taken = count;
+    *taken = code == CSQ_OK;
+    share = code == CSQ_OK ? 1 + share_of(it, file) : 0;
+    while (*taken < most && *taken < share && take_one(it, file, 0, &batch[*taken]) == CSQ_OK) {
+        ++*taken;
     }
-    requests_unlock(it);
-    return code;
+    return requests_return(it, code);
 }
 
 static inline uint32_t complete_one(struct csq_requests *it, struct csq_irp name, uint32_t status) {
@@ -199,26 +180,19 @@ static inline uint32_t complete_one(struct csq_requests *it, struct csq_irp name
 
 uint32_t csq_requests_complete(struct csq_requests *it, const struct csq_request *request,
                                uint32_t status) {
-    uint32_t code;
     requests_lock(it);
-    code = complete_one(it, request->name, status);
-    requests_unlock(it);
-    return code;
+    return requests_return(it, complete_one(it, request->name, status));
 }
 
 uint32_t csq_requests_complete_many(struct csq_requests *it, const struct csq_request *batch,
                                     uint32_t count, uint32_t status, uint32_t *completed) {
     uint32_t at, code = CSQ_OK;
     requests_lock(it);
-    for (at = 0; at < count; at++) {
+    for (at = 0; at < count && code == CSQ_OK; at++) {
         code = complete_one(it, batch[at].name, status);
-        if (code != CSQ_OK) {
-            break;
-        }
     }
-    *completed = at;
-    requests_unlock(it);
-    return code;
+    *completed = code == CSQ_OK ? count : at - 1;
+    return requests_return(it, code);
 }
 
 uint32_t csq_requests_put_back(struct csq_requests *it, const struct csq_request *request,
@@ -232,27 +206,22 @@ uint32_t csq_requests_put_back(struct csq_requests *it, const struct csq_request
         csq_ledger_look(&it->ledger, request->name, &look);
         requests_was_listed(it, look.file);
     }
-    requests_unlock(it);
-    return code;
+    return requests_return(it, code);
 }
 
 uint32_t csq_requests_is_cancelled(struct csq_requests *it, const struct csq_request *request) {
     struct csq_look look = { 0, 0, CSQ_WHY_NONE };
     requests_lock(it);
     csq_ledger_look(&it->ledger, request->name, &look);
-    requests_unlock(it);
-    return look.why;
+    return requests_return(it, look.why);
 }
 
 /* ---- Looks ---- */
 
 uint32_t csq_requests_len(struct csq_requests *it, uint32_t file, uint32_t *listed,
                           uint32_t *under_way) {
-    uint32_t code;
     requests_lock(it);
-    code = csq_ledger_len(&it->ledger, file, listed, under_way);
-    requests_unlock(it);
-    return code;
+    return requests_return(it, csq_ledger_len(&it->ledger, file, listed, under_way));
 }
 
 uint32_t csq_requests_read_stats(struct csq_requests *it, struct csq_requests_stats *stats) {

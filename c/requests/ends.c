@@ -57,8 +57,7 @@ uint32_t csq_requests_cancel_with(struct csq_requests *it, struct csq_irp name, 
     if (code == CSQ_OK) {
         *value = requests_end(it, name, word);
     }
-    requests_unlock(it);
-    return code;
+    return requests_return(it, code);
 }
 
 uint32_t csq_requests_cancel(struct csq_requests *it, struct csq_irp name, void **value) {
@@ -138,8 +137,7 @@ uint32_t csq_requests_start_clock(struct csq_requests *it) {
             code = CSQ_NO_MEMORY;
         }
     }
-    requests_unlock(it);
-    return code;
+    return requests_return(it, code);
 }
 
 void requests_end_clock(struct csq_requests *it) {
@@ -198,8 +196,7 @@ static uint32_t drain_for(struct csq_requests *it, uint32_t file, uint32_t milli
     if (code == CSQ_OK) {
         code = requests_drain(it, file, milliseconds, why, word);
     }
-    requests_unlock(it);
-    return code;
+    return requests_return(it, code);
 }
 
 uint32_t csq_requests_drain_with(struct csq_requests *it, uint32_t file, uint32_t milliseconds,
@@ -237,8 +234,7 @@ static uint32_t start_drain(struct csq_requests *it, uint32_t file, uint32_t why
             it->watchers++;
         }
     }
-    requests_unlock(it);
-    return code;
+    return requests_return(it, code);
 }
 
 uint32_t csq_requests_drain_start(struct csq_requests *it, uint32_t file, struct csq_quiet *quiet) {

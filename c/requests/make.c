@@ -133,8 +133,7 @@ uint32_t csq_requests_free(struct csq_requests **requests) {
     requests_end_clock(it);
     csq_requests_close(it);
     requests_lock(it);
-    code = requests_drain(it, CSQ_ANY, 0, CSQ_WHY_FREE, NULL);
-    requests_unlock(it);
+    code = requests_return(it, requests_drain(it, CSQ_ANY, 0, CSQ_WHY_FREE, NULL));
     if (code == CSQ_OK) {
         unmake(it, it->files + 1);
         *requests = NULL;
@@ -166,8 +165,7 @@ static uint32_t fd_of(struct csq_requests *it, uint32_t file, uint32_t which, in
     } else {
         code = CSQ_NO_MEMORY;
     }
-    requests_unlock(it);
-    return code;
+    return requests_return(it, code);
 }
 
 uint32_t csq_requests_fd(struct csq_requests *it, uint32_t file, int *fd) {

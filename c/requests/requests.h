@@ -82,8 +82,12 @@ static inline int requests_knows(const struct csq_requests *it, uint32_t file) {
     return file == CSQ_ANY || file < it->files;
 }
 
+/* Takes the mutex. A thread that finds it taken pauses and looks again before it sleeps. */
+void requests_lock_later(struct csq_requests *it);
 static inline void requests_lock(struct csq_requests *it) {
-    pthread_mutex_lock(&it->mutex);
+    if (pthread_mutex_trylock(&it->mutex) != 0) {
+        requests_lock_later(it);
+    }
 }
 
 /* Frees the mutex, and does what is to be done then. */
@@ -94,6 +98,12 @@ static inline void requests_unlock(struct csq_requests *it) {
     } else {
         pthread_mutex_unlock(&it->mutex);
     }
+}
+
+/* Frees the mutex, and returns a call's code. */
+static inline uint32_t requests_return(struct csq_requests *it, uint32_t code) {
+    requests_unlock(it);
+    return code;
 }
 
 /* ---- Who waits, and who is told (wait.c) ---- */

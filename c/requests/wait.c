@@ -5,7 +5,30 @@
 #include <sched.h>
 #include <unistd.h>
 
-enum { YIELDS = 4 };
+/* How often a thread lets others run before it sleeps; and the turns of a pause, in which another
+ * thread's call of this queue mostly ends: each is twice as long as the one before. */
+enum { YIELDS = 4, FIRST_PAUSE = 32, LAST_PAUSE = 1024 };
+
+static void pause_for(uint32_t turns) {
+    for (; turns > 0; turns--) {
+#if defined(__x86_64__)
+        __builtin_ia32_pause();
+#else
+        __asm__ volatile("" ::: "memory");
+#endif
+    }
+}
+
+void requests_lock_later(struct csq_requests *it) {
+    uint32_t turns;
+    for (turns = FIRST_PAUSE; turns <= LAST_PAUSE; turns *= 2) {
+        pause_for(turns);
+        if (pthread_mutex_trylock(&it->mutex) == 0) {
+            return;
+        }
+    }
+    pthread_mutex_lock(&it->mutex);
+}
 
 void requests_unlock_and_do(struct csq_requests *it) {
     static const struct requests_later nothing = { 0, 0, { 0 }, NULL };
@@ -143,9 +166,12 @@ void requests_look_for_takers(struct csq_requests *it, uint32_t file) {
 
 /* A submit that waits for a number waits on if none is free. */
 void requests_look_for_submits(struct csq_requests *it, uint32_t file) {
-    uint32_t listed = 0, under_way = 0;
+    const struct requests_file *all = requests_file(it, CSQ_ANY);
+    uint32_t listed = 0, under_way = it->irps;
     wake_submit(it, file);
-    csq_ledger_len(&it->ledger, CSQ_ANY, &listed, &under_way);
+    if (all->wanting > 0 || all->fds[REQUESTS_ROOM].above) {
+        csq_ledger_len(&it->ledger, CSQ_ANY, &listed, &under_way);
+    }
     if (under_way < it->irps) {
         wake_submit(it, CSQ_ANY);
     }
