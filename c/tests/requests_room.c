@@ -2,7 +2,9 @@
 #include "../requests/requests.h"
 #include "requests_check.h"
 
+#include <poll.h>
 #include <sched.h>
+#include <unistd.h>
 
 /* A submit that waits for room in a thread of its own. */
 struct submitter {
@@ -272,7 +274,36 @@ static void a_batch_leaves_the_others_share(uint32_t list) {
     }
 }
 
+/* ---- Late writes ---- */
+
+/* A thread that has listed a request writes the eventfd once the mutex is free; others may have
+ * taken the request, and found no further one, by then. The next that finds none reads it. Here two
+ * writes are late, and the second comes after the first was read. */
+static void a_write_that_comes_late_is_read(uint32_t list) {
+    struct csq_requests *requests = made(2, list, NULL);
+    struct requests_fd *fd = &requests_file(requests, CSQ_ANY)->fds[REQUESTS_LISTED];
+    struct pollfd one = { -1, POLLIN, 0 };
+    struct csq_request taken;
+    const uint64_t count = 1;
+    IS(csq_requests_fd(requests, CSQ_ANY, &one.fd), CSQ_OK);
+    requests_lock(requests);
+    for (int turn = 0; turn < 2; turn++) {
+        requests_raise(requests, fd);
+        requests_lower(fd);
+    }
+    requests->later.write_count = 1;
+    requests_unlock(requests);
+    for (int turn = 0; turn < 2; turn++) {
+        IS((unsigned)poll(&one, 1, 0), 1);
+        IS(csq_requests_next(requests, CSQ_ANY, 0, &taken), CSQ_NONE);
+        IS((unsigned)poll(&one, 1, 0), 0);
+        CHECK(turn > 0 || write(one.fd, &count, sizeof count) == (ssize_t)sizeof count);
+    }
+    IS(csq_requests_free(&requests), CSQ_OK);
+}
+
 int main(void) {
+    RUN_BOTH(a_write_that_comes_late_is_read);
     RUN_BOTH(a_submit_waits_for_its_time);
     RUN_BOTH(each_act_wakes_who_waits_for_room);
     RUN_BOTH(a_cleanup_wakes_who_waits_for_a_number);
