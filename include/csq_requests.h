@@ -173,9 +173,9 @@ CSQ_NODISCARD uint32_t csq_requests_submit(struct csq_requests *requests, void *
 /* csq_requests_submit that waits for room in the place of CSQ_FULL and CSQ_FILE_FULL, for at most
  * submit->milliseconds, and that sets a deadline if submit->due is one: at that time, by the clock
  * of csq_requests_tick, the request is cancelled. A removal from the list, an end of a request,
- * csq_requests_close and a cleanup wake who waits. They come in no order, and a submit that doesn't
- * wait may come first. A drain doesn't wait for them. The codes of csq_requests_submit, in their
- * order. */
+ * csq_requests_close and a cleanup wake those that wait. They come in no order, and a submit that
+ * doesn't wait may come first. A drain doesn't wait for them. The codes of csq_requests_submit, in
+ * their order. */
 CSQ_NODISCARD uint32_t csq_requests_submit_with(struct csq_requests *requests,
                                                 const struct csq_submit *submit,
                                                 struct csq_irp *name);

@@ -14,7 +14,7 @@ static void close_fds(struct requests_file *of) {
     }
 }
 
-/* Frees a queue that has its mutex, its own signals, and those of so many file objects. */
+/* Frees a queue that has its mutex, its own signals, and those of this number of file objects. */
 static void unmake(struct csq_requests *it, uint32_t files) {
     uint32_t code = it->ledger.at ? csq_ledger_free(&it->ledger) : (uint32_t)CSQ_OK;
     (void)code; /* nothing is under way */

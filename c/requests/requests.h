@@ -122,8 +122,8 @@ int requests_sleep(struct csq_requests *it, pthread_cond_t *signal, const struct
 void requests_raise(struct csq_requests *it, struct requests_fd *fd);
 void requests_lower(struct requests_fd *fd);
 
-/* Wakes who waits for what was just listed for a file object, or ends it if a drain was started
- * that isn't over. */
+/* Wakes those that wait for what was just listed for a file object, or ends it if a drain was
+ * started that isn't over. */
 void requests_look_for_takers(struct csq_requests *it, uint32_t file);
 static inline void requests_was_listed(struct csq_requests *it, uint32_t file) {
     if (it->watchers > 0) {
@@ -131,7 +131,7 @@ static inline void requests_was_listed(struct csq_requests *it, uint32_t file) {
     }
 }
 
-/* Wakes who waits for room, since one of this file object isn't listed any more. */
+/* Wakes those that wait for room, since one of this file object isn't listed any more. */
 void requests_look_for_submits(struct csq_requests *it, uint32_t file);
 static inline void requests_was_unlisted(struct csq_requests *it, uint32_t file) {
     if (it->watchers > 0) {
@@ -139,7 +139,7 @@ static inline void requests_was_unlisted(struct csq_requests *it, uint32_t file)
     }
 }
 
-/* Wakes and tells who waits for a request's end. */
+/* Wakes and tells those that wait for a request's end. */
 void requests_look_for_ends(struct csq_requests *it, const struct csq_ended *ended);
 static inline void requests_has_ended(struct csq_requests *it, const struct csq_ended *ended) {
     if (it->watchers > 0) {

@@ -37,7 +37,7 @@ static void end_of(struct submitter *it, uint32_t code) {
     CHECK(it->took < LONG);
 }
 
-/* Until so many submits sleep for room of a file object, or for a number. */
+/* Until this number of submits sleep for room of a file object, or for an IRP. */
 static void until_it_waits(struct csq_requests *requests, uint32_t file, uint32_t count) {
     const struct requests_file *of = requests_file(requests, file);
     const uint64_t began = csq_requests_now();
@@ -253,7 +253,7 @@ static void a_free_that_is_refused_ends_the_clock(uint32_t list) {
 
 /* ---- Shares ---- */
 
-/* Those that sleep for the same get theirs: as if so many slept. */
+/* Those that sleep for the same get theirs. The test sets how many there are. */
 static void a_batch_leaves_the_others_share(uint32_t list) {
     static const struct { uint32_t listed, asleep, share; } rows[] = {
         { 6, 0, 6 }, { 6, 1, 3 }, { 6, 2, 2 }, { 7, 2, 3 }, { 1, 5, 1 }, { 5, 9, 1 }
