@@ -1,0 +1,5 @@
+pub mod Stages
+pub mod Times
+pub mod Requests
+pub mod Refusals
+pub mod Parts

@@ -1,0 +1,16 @@
+//! The bookkeeping of requests over a pool of IRPs: which number is free, listed, taken, ending or spent, for
+//! which file object, and when it is due. It has no queue and no lock, and starts no thread.
+#![tactic(auto)]
+
+mod dues;
+mod refusals;
+mod size;
+mod stage;
+mod table;
+mod under_way;
+
+pub use dues::NEVER;
+pub use refusals::BeginRefused;
+pub use size::MAX_FILES;
+pub use stage::{Ended, Stage, Why};
+pub use table::RequestTable;

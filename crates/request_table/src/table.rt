@@ -1,0 +1,329 @@
+//! The table of requests.
+ghost use Rattle.std.specs.Prelude.{◌≡◌, ◌==◌, ◌<◌, ◌≤◌, ◌+◌, ◌-◌, ◌↔◌, Err, IfOk, IfSome, IfNone, IsTrue, None, Some, true, length, drop, slice_get, slice_index_or, slice_set};
+ghost use Rattle.std.specs.Option.{ForSome};
+ghost use Rattle.std.specs.VecDeque.{deque_capacity, deque_len};
+ghost use Rattle.request_table.specs.Stages.{file_of, is_listed, is_taken, may_be_due, may_finish, as_taken, as_listed, as_named, as_ending};
+ghost use Rattle.request_table.specs.Times.{IsOver, NoneIsOver, IsNextDue, NoneIsDue};
+ghost use Rattle.request_table.specs.Requests.{IsSound, IsTableSize, stage_of, under_way, under_way_of_all, fresh, ids_below, begun, with_stage, with_due, stage_after, free_after, finished};
+ghost use Rattle.request_table.specs.Refusals.{refusal_to_begin};
+
+use crate::dues::{Dues, NEVER};
+use crate::refusals::BeginRefused;
+use crate::size::is_table_size;
+use crate::stage::{Ended, Stage, Why};
+use crate::under_way::UnderWay;
+use irp_core::{FileId, IrpId, SizeRefused};
+use std::alloc::{AllocError, Allocator, Global};
+use std::collections::VecDeque;
+use std::marker::Model;
+
+/// Which number is free, listed, taken, ending or spent, for which file object, and when it is due. Every
+/// call takes constant time, but that `expire` and `next_due`, and each call by which a number becomes due
+/// or stops being due, take the logarithm of the number of IRPs. Only `new` takes memory. Own rule.
+#[derive(Drop)]
+pub struct RequestTable<A: Allocator = Global> {
+    stages: Vec<Stage, A>,
+    // Used as a ring: the first has been free longest.
+    free: VecDeque<IrpId, A>,
+    dues: Dues<A>,
+    under_way: UnderWay<A>,
+    closed: bool,
+    closed_files: Vec<bool, A>,
+}
+
+impl<A: Allocator> Model for RequestTable<A> {
+    ghost use Rattle.std.specs.VecDeque.{deque_capacity};
+    ghost use Rattle.request_table.specs.Requests.{Requests};
+    ghost use Rattle.request_table.specs.Parts.{IsKept};
+
+    ghost Value = { Requests };
+
+    ghost view = { λ t. record {
+      stages = t.stages.items;
+      free = t.free.items;
+      dues = t.dues;
+      closed = t.closed;
+      closed_files = t.closed_files.items;
+    } };
+
+    ghost invariant = { λ t. IsKept t.under_way.of_files.items t.under_way.of_all
+        (deque_capacity t.free) (record {
+          stages = t.stages.items;
+          free = t.free.items;
+          dues = t.dues;
+          closed = t.closed;
+          closed_files = t.closed_files.items;
+        }) };
+}
+
+impl<A: Allocator> RequestTable<A> {
+    /// A table of this many IRPs and file objects, numbered from 0. Each number is free, the lowest one
+    /// first, and no file object is closed. All memory is taken here, from `alloc`.
+    ///
+    /// `BadSize` comes exactly if `irps` is outside 1 to `LARGE_MAX_IRPS` or `files` outside 1 to
+    /// `MAX_FILES` (this project's own limits), then `Memory`.
+    pub fn new(alloc: A, irps: u32, files: u32) -> Result<RequestTable<A>, SizeRefused>
+    where
+        A: Clone,
+        ensures made { IfOk result (λ table. table ≡ fresh irps files) }
+        ensures bad_size { (result ≡ Err SizeRefused.BadSize) ↔ ¬ IsTableSize irps files }
+    {
+        if !is_table_size(irps, files) {
+            return Err(SizeRefused::BadSize);
+        }
+        Ok(RequestTable::with_size(alloc, irps, files)?)
+    }
+
+    /// A table of a size that is in range.
+    fn with_size(alloc: A, irps: u32, files: u32) -> Result<RequestTable<A>, AllocError>
+    where
+        A: Clone,
+        requires size { IsTableSize irps files }
+        ensures made { IfOk result (λ table. table ≡ fresh irps files) }
+    {
+        Ok(RequestTable {
+            stages: vec![in alloc.clone()?; Stage::Free; irps as usize]?,
+            free: all_numbers(alloc.clone()?, irps)?,
+            dues: Dues::new(alloc.clone()?, irps)?,
+            under_way: UnderWay::new(alloc.clone()?, files)?,
+            closed: false,
+            closed_files: vec![in alloc; false; files as usize]?,
+        })
+    }
+
+    /// What holds of every table: a number stands among the free ones once if its stage is Free and else
+    /// never, what is due is Listed or Taken, and what is under way is for a known file. Nothing is run.
+    pub fn is_sound(&self)
+        ensures { IsSound self.now }
+    {
+        let _ = &self.closed;
+    }
+
+    /// The number of IRPs, which are numbered from 0.
+    pub fn irps(&self) -> u32
+        ensures { result ≡ length self.now.stages }
+    {
+        self.stages.len() as u32
+    }
+
+    /// The number of file objects, which are numbered from 0.
+    pub fn files(&self) -> u32
+        ensures { result ≡ length self.now.closed_files }
+    {
+        self.closed_files.len() as u32
+    }
+
+    /// The stage of a number; Spent for one that there isn't.
+    pub fn stage(&self, irp: IrpId) -> Stage
+        ensures { result ≡ stage_of self.now irp }
+    {
+        if irp.0 as usize >= self.stages.len() {
+            return Stage::Spent;
+        }
+        self.stages[irp.0 as usize]
+    }
+
+    /// How many requests are under way for a file: Listed, Taken or Ending. 0 for an unknown file.
+    pub fn len(&self, file: FileId) -> u32
+        ensures { result ≡ under_way self.now file }
+    {
+        self.under_way.of(file)
+    }
+
+    /// How many requests are under way for all files.
+    pub fn len_of_all(&self) -> u32
+        ensures { result ≡ under_way_of_all self.now }
+    {
+        self.under_way.of_all()
+    }
+
+    /// Why no request for this file may begin: the first cause that holds, in the order of
+    /// `BeginRefused`. None if one may.
+    pub fn refusal_to_begin(&self, file: FileId) -> Option<BeginRefused>
+        ensures { result ≡ refusal_to_begin self.now file }
+    {
+        if file.0 as usize >= self.closed_files.len() {
+            return Some(BeginRefused::UnknownFile);
+        }
+        if self.closed {
+            return Some(BeginRefused::Closed);
+        }
+        if self.closed_files[file.0 as usize] {
+            return Some(BeginRefused::FileClosed);
+        }
+        if !self.free.is_empty() {
+            return None;
+        }
+        if self.under_way.of_all() == 0 {
+            return Some(BeginRefused::AllSpent);
+        }
+        Some(BeginRefused::AllUnderWay)
+    }
+
+    /// The number that the next request gets: the one that has been free longest. None if none is free.
+    pub fn next_free(&self) -> Option<IrpId>
+        ensures first { result ≡ slice_get self.now.free 0 }
+        ensures known { IfSome result (λ irp. irp.0 < length self.now.stages) }
+        ensures free { IfSome result (λ irp. stage_of self.now irp ≡ Stage.Free) }
+    {
+        self.free.front().copied()
+    }
+
+    /// Begins a request for a file: the number that has been free longest becomes Listed, due at this time
+    /// or never, and is returned.
+    pub fn list(&mut self, file: FileId, due: Option<u64>) -> IrpId
+        requires may_begin { refusal_to_begin self.old file ≡ None }
+        requires time { ForSome due (λ time. time < NEVER) }
+        ensures first { slice_get self.old.free 0 ≡ Some result }
+        ensures begun { self.new ≡ begun result file due self.old }
+    {
+        let Some(irp) = self.free.pop_front() else {
+            // A request may begin only if a number is free.
+            unreachable!()
+        };
+        self.under_way.add(file);
+        self.stages[irp.0 as usize] = Stage::Listed { file };
+        self.dues.set(irp, due);
+        irp
+    }
+
+    /// Hands a listed request to a worker: it becomes Taken, and nothing has named it. Its time stays.
+    pub fn take(&mut self, irp: IrpId)
+        requires { IsTrue (is_listed (stage_of self.old irp)) }
+        ensures { self.new ≡ with_stage irp (as_taken (stage_of self.old irp)) self.old }
+    {
+        self.stages[irp.0 as usize] = self.stages[irp.0 as usize].taken();
+    }
+
+    /// Lists a taken request again. Its time stays, and what named it is forgotten.
+    pub fn list_again(&mut self, irp: IrpId)
+        requires { IsTrue (is_taken (stage_of self.old irp)) }
+        ensures { self.new ≡ with_stage irp (as_listed (stage_of self.old irp)) self.old }
+    {
+        self.stages[irp.0 as usize] = self.stages[irp.0 as usize].listed();
+    }
+
+    /// Names a taken request. What named it first stays.
+    pub fn name(&mut self, irp: IrpId, why: Why)
+        requires { IsTrue (is_taken (stage_of self.old irp)) }
+        ensures { self.new ≡ with_stage irp (as_named why (stage_of self.old irp)) self.old }
+    {
+        self.stages[irp.0 as usize] = self.stages[irp.0 as usize].named(why);
+    }
+
+    /// Begins the end of a listed request, for this reason: it becomes Ending, and is never due.
+    pub fn begin_end(&mut self, irp: IrpId, why: Why)
+        requires { IsTrue (is_listed (stage_of self.old irp)) }
+        ensures { self.new ≡ with_due irp None
+            (with_stage irp (as_ending why (stage_of self.old irp)) self.old) }
+    {
+        self.stages[irp.0 as usize] = self.stages[irp.0 as usize].ending(why);
+        self.dues.set(irp, None);
+    }
+
+    /// Ends a request that is Taken or Ending. Its number is spent if the caller says so; else it is free
+    /// again, and the last of those that are. It is never due. Returns its file, and whether no request is
+    /// under way any more for the file, and for all.
+    pub fn finish(&mut self, irp: IrpId, spent: bool) -> Ended
+        requires { IsTrue (may_finish (stage_of self.old irp)) }
+        ensures finished { self.new ≡ finished irp spent self.old }
+        ensures file { file_of (stage_of self.old irp) ≡ Some result.file }
+        ensures file_is_quiet { result.file_is_quiet ≡ (under_way self.new result.file == 0) }
+        ensures all_are_quiet { result.all_are_quiet ≡ (under_way_of_all self.new == 0) }
+    {
+        let file = file_at(&self.stages, irp);
+        self.under_way.take(file);
+        self.stages[irp.0 as usize] = stage_after(spent);
+        self.dues.set(irp, None);
+        put_back(&mut self.free, irp, spent);
+        Ended {
+            file,
+            file_is_quiet: self.under_way.of(file) == 0,
+            all_are_quiet: self.under_way.of_all() == 0,
+        }
+    }
+
+    /// A number that is due at this time or before: the one that is due first, of several at the same time
+    /// any one. It is Listed or Taken, stays so, and isn't due any more. None if none is due.
+    pub fn expire(&mut self, now: u64) -> Option<IrpId>
+        ensures over { IfSome result (IsOver self.old.dues now) }
+        ensures waits { IfSome result (λ irp. IsTrue (may_be_due (stage_of self.old irp))) }
+        ensures some { IfSome result (λ irp. self.new ≡ with_due irp None self.old) }
+        ensures none_over { IfNone result (NoneIsOver self.old.dues now) }
+        ensures none { IfNone result (self.new ≡ self.old) }
+    {
+        let first = self.dues.first()?;
+        if first.time > now {
+            return None;
+        }
+        self.dues.set(first.irp, None);
+        Some(first.irp)
+    }
+
+    /// The least time at which a number is due. None if none is due.
+    pub fn next_due(&self) -> Option<u64>
+        ensures some { IfSome result (IsNextDue self.now.dues) }
+        ensures none { IfNone result (NoneIsDue self.now.dues) }
+    {
+        let first = self.dues.first()?;
+        Some(first.time)
+    }
+
+    /// Refuses further requests as Closed. A closed table may be closed again.
+    pub fn close(&mut self)
+        ensures { self.new ≡ record self.old { closed = true } }
+    {
+        self.closed = true;
+    }
+
+    /// Refuses further requests for a file as FileClosed. A closed file may be closed again.
+    pub fn close_file(&mut self, file: FileId)
+        requires { file.0 < length self.old.closed_files }
+        ensures { self.new ≡ record self.old
+            { closed_files = slice_set self.old.closed_files file.0 true } }
+    {
+        self.closed_files[file.0 as usize] = true;
+    }
+}
+
+/// All numbers below this one, in order, with room for no more.
+fn all_numbers<A: Allocator>(alloc: A, irps: u32) -> Result<VecDeque<IrpId, A>, AllocError>
+    ensures numbers { IfOk result (λ free. free.items ≡ ids_below irps) }
+    ensures room { IfOk result (λ free. deque_capacity free ≡ irps) }
+{
+    let mut free = VecDeque::with_capacity(alloc, irps as usize)?;
+    for number in 0..irps {
+        free.push_back_reserved(IrpId(number));
+    }
+    Ok(free)
+}
+
+/// The file of a request under way.
+fn file_at(stages: &[Stage], irp: IrpId) -> FileId
+    requires known { irp.0 < length stages.now }
+    requires under_way { IsTrue (may_finish (slice_index_or stages.now irp.0 Stage.Spent)) }
+    ensures { file_of (slice_index_or stages.now irp.0 Stage.Spent) ≡ Some result }
+{
+    let Some(file) = stages[irp.0 as usize].file() else {
+        unreachable!()
+    };
+    file
+}
+
+/// The stage of a number whose request has ended.
+fn stage_after(spent: bool) -> Stage
+    ensures { result ≡ stage_after spent }
+{
+    if spent { Stage::Spent } else { Stage::Free }
+}
+
+/// Puts a number last among the free ones, unless it is spent.
+fn put_back<A: Allocator>(free: &mut VecDeque<IrpId, A>, irp: IrpId, spent: bool)
+    requires { deque_len free.old < deque_capacity free.old }
+    ensures free { free.new.items ≡ free_after spent irp free.old.items }
+    ensures room { deque_capacity free.new ≡ deque_capacity free.old }
+{
+    if !spent {
+        free.push_back_reserved(irp);
+    }
+}
