@@ -66,13 +66,9 @@ with_stage i s r = record r { stages = slice_set r.stages i.0 s }
 abbrev pub with_due : IrpId → Option ℕ → Requests → Requests
 with_due i d r = record r { dues = slice_set r.dues i.0 d }
 
--- after a request began with the number that has been free longest
-abbrev pub begun : IrpId → FileId → Option ℕ → Requests → Requests
-begun i f d r = record r { stages = slice_set r.stages i.0 (Listed f); free = drop 1 r.free; dues = slice_set r.dues i.0 d }
-
--- after a request left the queue to end
-abbrev pub ended_without_worker : IrpId → Stage → Requests → Requests
-ended_without_worker i s r = with_due i None (with_stage i s r)
+-- after the number that has been free longest was listed
+abbrev pub begun : IrpId → FileId → Requests → Requests
+begun i f r = record r { stages = slice_set r.stages i.0 (Listed f); free = drop 1 r.free }
 
 -- the stage of a number whose request has ended
 abbrev pub stage_after : Bool → Stage
@@ -84,4 +80,4 @@ free_after spent i free = if spent then free else free ++ i ∷ []
 
 -- after a request ended
 abbrev pub finished : IrpId → Bool → Requests → Requests
-finished i spent r = record r { stages = slice_set r.stages i.0 (stage_after spent); free = free_after spent i r.free; dues = slice_set r.dues i.0 None }
+finished i spent r = record r { stages = slice_set r.stages i.0 (stage_after spent); free = free_after spent i r.free }

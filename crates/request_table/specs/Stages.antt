@@ -1,5 +1,6 @@
 -- The stages of a number.
-use Rattle.std.specs.Prelude.{Bool, true, false, ◌==◌, Option, Some, None}
+use Rattle.std.specs.Prelude.{Bool, true, false, ◌==◌, Option, Some, None, is_some}
+use Rattle.std.specs.Option.{option_map_or}
 use Rattle.irp_core.specs.declared.ids.FileId.{FileId}
 use Rattle.request_table.specs.declared.stage.{Why.{Why}, Stage.{Stage, TheVariants.{Free, Listed, Taken, Ending, Spent}}}
 
@@ -45,17 +46,11 @@ may_finish _ = false
 
 -- a request under way
 abbrev pub is_under_way : Stage → Bool
-is_under_way (Listed f) = true
-is_under_way (Taken f named) = true
-is_under_way (Ending f why) = true
-is_under_way _ = false
+is_under_way s = is_some (file_of s)
 
 -- a request under way for this file
 abbrev pub is_for : FileId → Stage → Bool
-is_for f (Listed g) = same_file g f
-is_for f (Taken g named) = same_file g f
-is_for f (Ending g why) = same_file g f
-is_for f _ = false
+is_for f s = option_map_or (same_file f) (file_of s) false
 
 -- what was listed, in the hands of a worker
 abbrev pub as_taken : Stage → Stage

@@ -1,5 +1,5 @@
 -- When numbers are due, and the tree in which their times stand.
-use Rattle.std.specs.Prelude.{◌≡◌, ℕ, ◌+◌, ◌<◌, ◌≤◌, ◌==◌, min, if◌then◌else◌, List, length, map, drop, slice_index, slice_index_or, Option, Some, None}
+use Rattle.std.specs.Prelude.{◌≡◌, ℕ, ◌+◌, ◌<◌, ◌≤◌, ◌*◌, ◌^◌, nat_lt, min, if◌then◌else◌, List, length, map, drop, slice_index, slice_index_or, Option, Some, None}
 use Rattle.irp_core.specs.declared.ids.IrpId.{IrpId}
 use Rattle.request_table.specs.declared.dues.TheConstants.{NEVER}
 
@@ -30,12 +30,7 @@ NoneIsDue dues = (i : IrpId) → due_in dues i ≡ None
 
 -- when it is due, unless that is never
 abbrev pub due_at : ℕ → Option ℕ
-due_at t = if t == NEVER then None else Some t
-
--- the time of a leaf
-abbrev pub time_of : Option ℕ → ℕ
-time_of None = NEVER
-time_of (Some t) = t
+due_at t = if nat_lt t NEVER then Some t else None
 
 -- when each number is due, by the leaves of a tree, of which the first has this index
 abbrev pub dues_of : ℕ → List ℕ → List (Option ℕ)
@@ -43,10 +38,11 @@ dues_of leaves times = map due_at (drop leaves times)
 
 -- a node is the least of the two below it
 abbrev pub IsLeast : List ℕ → ℕ → Type 0
-IsLeast times k = slice_index times k ≡ min (slice_index times (k + k)) (slice_index times (k + k + 1))
+IsLeast times k = slice_index times k ≡ min (slice_index times (2 * k)) (slice_index times (2 * k + 1))
 
 -- the nodes above the leaves, from 1 on, are the least of what is below them
 pub record IsTree (leaves : ℕ) (times : List ℕ) : Type 0 where
   pub some : 1 ≤ leaves
+  pub few : leaves < 2 ^ 32
   pub size : length times ≡ leaves + leaves
   pub least : (k : ℕ) → 1 ≤ k → k < leaves → IsLeast times k

@@ -1,7 +1,7 @@
 //! When each number is due.
 ghost use Rattle.std.specs.Prelude.{◌≡◌, ◌<◌, ◌≤◌, ◌-◌, ◌+◌, IfOk, IfSome, IfNone, length, drop, replicate, slice_index, slice_set, None};
 ghost use Rattle.std.specs.Option.{ForSome};
-ghost use Rattle.request_table.specs.Times.{IsFirstDue, NoneIsDue, IsTree, time_of};
+ghost use Rattle.request_table.specs.Times.{IsFirstDue, NoneIsDue, IsTree};
 
 use irp_core::IrpId;
 use std::alloc::{AllocError, Allocator};

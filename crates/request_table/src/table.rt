@@ -1,10 +1,10 @@
 //! The table of requests.
-ghost use Rattle.std.specs.Prelude.{◌≡◌, ◌==◌, ◌<◌, ◌≤◌, ◌+◌, ◌-◌, ◌↔◌, Err, IfOk, IfSome, IfNone, IsTrue, None, Some, true, length, drop, slice_get, slice_index_or, slice_set};
+ghost use Rattle.std.specs.Prelude.{◌≡◌, ◌==◌, ◌<◌, ◌≤◌, ◌+◌, ◌-◌, ◌↔◌, Err, IfOk, IfSome, IfNone, IsTrue, None, Some, true, length, drop, slice_get, slice_set, IsSome};
 ghost use Rattle.std.specs.Option.{ForSome};
 ghost use Rattle.std.specs.VecDeque.{deque_capacity, deque_len};
-ghost use Rattle.request_table.specs.Stages.{file_of, is_listed, is_taken, may_be_due, may_finish, as_taken, as_listed, as_named, as_ending};
+ghost use Rattle.request_table.specs.Stages.{file_of, is_under_way, is_listed, is_taken, may_be_due, may_finish, as_taken, as_listed, as_named, as_ending};
 ghost use Rattle.request_table.specs.Times.{IsOver, NoneIsOver, IsNextDue, NoneIsDue};
-ghost use Rattle.request_table.specs.Requests.{IsSound, IsTableSize, stage_of, under_way, under_way_of_all, fresh, ids_below, begun, with_stage, with_due, stage_after, free_after, finished};
+ghost use Rattle.request_table.specs.Requests.{IsSound, IsTableSize, stage_of, due_of, under_way, under_way_of_all, fresh, ids_below, begun, with_stage, with_due, stage_after, free_after, finished};
 ghost use Rattle.request_table.specs.Refusals.{refusal_to_begin};
 
 use crate::dues::{Dues, NEVER};
@@ -175,15 +175,10 @@ impl<A: Allocator> RequestTable<A> {
         requires may_begin { refusal_to_begin self.old file ≡ None }
         requires time { ForSome due (λ time. time < NEVER) }
         ensures first { slice_get self.old.free 0 ≡ Some result }
-        ensures begun { self.new ≡ begun result file due self.old }
+        ensures listed { self.new ≡ with_due result due (begun result file self.old) }
     {
-        let Some(irp) = self.free.pop_front() else {
-            // A request may begin only if a number is free.
-            unreachable!()
-        };
-        self.under_way.add(file);
-        self.stages[irp.0 as usize] = Stage::Listed { file };
-        self.dues.set(irp, due);
+        let irp = self.list_first(file);
+        self.set_due(irp, due);
         irp
     }
 
@@ -192,7 +187,8 @@ impl<A: Allocator> RequestTable<A> {
         requires { IsTrue (is_listed (stage_of self.old irp)) }
         ensures { self.new ≡ with_stage irp (as_taken (stage_of self.old irp)) self.old }
     {
-        self.stages[irp.0 as usize] = self.stages[irp.0 as usize].taken();
+        let stage = self.stage(irp).taken();
+        self.set_stage(irp, stage);
     }
 
     /// Lists a taken request again. Its time stays, and what named it is forgotten.
@@ -200,7 +196,8 @@ impl<A: Allocator> RequestTable<A> {
         requires { IsTrue (is_taken (stage_of self.old irp)) }
         ensures { self.new ≡ with_stage irp (as_listed (stage_of self.old irp)) self.old }
     {
-        self.stages[irp.0 as usize] = self.stages[irp.0 as usize].listed();
+        let stage = self.stage(irp).listed();
+        self.set_stage(irp, stage);
     }
 
     /// Names a taken request. What named it first stays.
@@ -208,47 +205,50 @@ impl<A: Allocator> RequestTable<A> {
         requires { IsTrue (is_taken (stage_of self.old irp)) }
         ensures { self.new ≡ with_stage irp (as_named why (stage_of self.old irp)) self.old }
     {
-        self.stages[irp.0 as usize] = self.stages[irp.0 as usize].named(why);
+        let stage = self.stage(irp).named(why);
+        self.set_stage(irp, stage);
     }
 
-    /// Begins the end of a listed request, for this reason: it becomes Ending, and is never due.
+    /// Begins the end of a listed request, for this reason: it becomes Ending, and isn't due any more.
     pub fn begin_end(&mut self, irp: IrpId, why: Why)
         requires { IsTrue (is_listed (stage_of self.old irp)) }
         ensures { self.new ≡ with_due irp None
             (with_stage irp (as_ending why (stage_of self.old irp)) self.old) }
     {
-        self.stages[irp.0 as usize] = self.stages[irp.0 as usize].ending(why);
-        self.dues.set(irp, None);
+        let stage = self.stage(irp).ending(why);
+        self.set_due(irp, None);
+        self.set_stage(irp, stage);
     }
 
     /// Ends a request that is Taken or Ending. Its number is spent if the caller says so; else it is free
-    /// again, and the last of those that are. It is never due. Returns its file, and whether no request is
-    /// under way any more for the file, and for all.
+    /// again, as the last of those that are. It isn't due any more. Returns its file, and whether no
+    /// request is under way any more for the file, and for all.
     pub fn finish(&mut self, irp: IrpId, spent: bool) -> Ended
         requires { IsTrue (may_finish (stage_of self.old irp)) }
-        ensures finished { self.new ≡ finished irp spent self.old }
+        ensures finished { self.new ≡ with_due irp None (finished irp spent self.old) }
         ensures file { file_of (stage_of self.old irp) ≡ Some result.file }
         ensures file_is_quiet { result.file_is_quiet ≡ (under_way self.new result.file == 0) }
         ensures all_are_quiet { result.all_are_quiet ≡ (under_way_of_all self.new == 0) }
     {
-        let file = file_at(&self.stages, irp);
-        self.under_way.take(file);
-        self.stages[irp.0 as usize] = stage_after(spent);
-        self.dues.set(irp, None);
-        put_back(&mut self.free, irp, spent);
+        let Some(file) = self.stage(irp).file() else {
+            // What may finish is under way.
+            unreachable!()
+        };
+        self.set_due(irp, None);
+        self.let_go(irp, file, spent);
         Ended {
             file,
-            file_is_quiet: self.under_way.of(file) == 0,
-            all_are_quiet: self.under_way.of_all() == 0,
+            file_is_quiet: self.len(file) == 0,
+            all_are_quiet: self.len_of_all() == 0,
         }
     }
 
     /// A number that is due at this time or before: the one that is due first, of several at the same time
-    /// any one. It is Listed or Taken, stays so, and isn't due any more. None if none is due.
+    /// any one. It is Listed or Taken, stays so, and isn't due any more. None if none is due by then.
     pub fn expire(&mut self, now: u64) -> Option<IrpId>
         ensures over { IfSome result (IsOver self.old.dues now) }
         ensures waits { IfSome result (λ irp. IsTrue (may_be_due (stage_of self.old irp))) }
-        ensures some { IfSome result (λ irp. self.new ≡ with_due irp None self.old) }
+        ensures expired { IfSome result (λ irp. self.new ≡ with_due irp None self.old) }
         ensures none_over { IfNone result (NoneIsOver self.old.dues now) }
         ensures none { IfNone result (self.new ≡ self.old) }
     {
@@ -256,7 +256,7 @@ impl<A: Allocator> RequestTable<A> {
         if first.time > now {
             return None;
         }
-        self.dues.set(first.irp, None);
+        self.set_due(first.irp, None);
         Some(first.irp)
     }
 
@@ -284,6 +284,52 @@ impl<A: Allocator> RequestTable<A> {
     {
         self.closed_files[file.0 as usize] = true;
     }
+
+    /// Lists the number that has been free longest, for a file.
+    fn list_first(&mut self, file: FileId) -> IrpId
+        requires { refusal_to_begin self.old file ≡ None }
+        ensures first { slice_get self.old.free 0 ≡ Some result }
+        ensures begun { self.new ≡ begun result file self.old }
+    {
+        let Some(irp) = self.free.pop_front() else {
+            // A request may begin only if a number is free.
+            unreachable!()
+        };
+        self.under_way.add(file);
+        self.stages[irp.0 as usize] = Stage::Listed { file };
+        irp
+    }
+
+    /// Makes a number due at a time, or never.
+    fn set_due(&mut self, irp: IrpId, due: Option<u64>)
+        requires known { irp.0 < length self.old.stages }
+        requires time { ForSome due (λ time. time < NEVER) }
+        requires waits { IsSome due → IsTrue (may_be_due (stage_of self.old irp)) }
+        ensures { self.new ≡ with_due irp due self.old }
+    {
+        self.dues.set(irp, due);
+    }
+
+    /// Writes the stage of a request that stays under way for its file.
+    fn set_stage(&mut self, irp: IrpId, stage: Stage)
+        requires under_way { IsTrue (is_under_way (stage_of self.old irp)) }
+        requires file { file_of stage ≡ file_of (stage_of self.old irp) }
+        requires waits { IsSome (due_of self.old irp) → IsTrue (may_be_due stage) }
+        ensures { self.new ≡ with_stage irp stage self.old }
+    {
+        self.stages[irp.0 as usize] = stage;
+    }
+
+    /// Frees or spends the number of a request for this file.
+    fn let_go(&mut self, irp: IrpId, file: FileId, spent: bool)
+        requires file { file_of (stage_of self.old irp) ≡ Some file }
+        requires due { due_of self.old irp ≡ None }
+        ensures { self.new ≡ finished irp spent self.old }
+    {
+        self.under_way.take(file);
+        self.stages[irp.0 as usize] = stage_after(spent);
+        put_back(&mut self.free, irp, spent);
+    }
 }
 
 /// All numbers below this one, in order, with room for no more.
@@ -296,18 +342,6 @@ fn all_numbers<A: Allocator>(alloc: A, irps: u32) -> Result<VecDeque<IrpId, A>, 
         free.push_back_reserved(IrpId(number));
     }
     Ok(free)
-}
-
-/// The file of a request under way.
-fn file_at(stages: &[Stage], irp: IrpId) -> FileId
-    requires known { irp.0 < length stages.now }
-    requires under_way { IsTrue (may_finish (slice_index_or stages.now irp.0 Stage.Spent)) }
-    ensures { file_of (slice_index_or stages.now irp.0 Stage.Spent) ≡ Some result }
-{
-    let Some(file) = stages[irp.0 as usize].file() else {
-        unreachable!()
-    };
-    file
 }
 
 /// The stage of a number whose request has ended.
