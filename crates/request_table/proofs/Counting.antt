@@ -1,8 +1,9 @@
 -- How many elements of a list pass a test, after each change.
-use Rattle.std.proofs.Common.{◌≡◌, ◌<◌, ◌≤◌, ◌+◌, ℕ, zero, suc, Bool, true, false, cond, List, [], ◌∷◌, ◌++◌, filter, length, get_or, set, refl, ap, ◌∙◌, arith}
+use Rattle.std.proofs.Common.{◌≡◌, ◌<◌, ◌≤◌, ◌+◌, ℕ, zero, suc, Bool, true, false, cond, List, [], ◌∷◌, ◌++◌, filter, length, get_or, set, replicate, refl, ap, arith}
 use Rattle.std.proofs.lemmas.List.{length-append}
 use Rattle.std.proofs.lemmas.List.Elements.{filter-append}
 use Rattle.irp_core.proofs.ByTest.{by_value}
+use Rattle.irp_core.specs.Words.{bit}
 
 module _ {X : Type 0} (p : X → Bool) where
   pub count-cons : (x : X) (xs : List X) → length (filter p (x ∷ xs)) ≡ length (filter p xs) + cond (p x) 1 0
@@ -21,3 +22,17 @@ module _ {X : Type 0} (p : X → Bool) where
   count-le [] = omega arith
   count-le (x ∷ xs) = let rest = count-le xs in by_value (λ b. length (filter p (x ∷ xs)) ≡ length (filter p xs) + cond b 1 0 → length (filter p (x ∷ xs)) ≤ suc (length xs)) (p x) (λ m e. omega arith) (λ m e. omega arith) (count-cons x xs)
 
+  -- of so many copies none passes, or each
+  pub count-copies : (n : ℕ) (x : X) → p x ≡ false → length (filter p (replicate n x)) ≡ 0
+  count-copies zero x none = refl
+  count-copies (suc n) x none = omega (arith, count-cons x (replicate n x), count-copies n x none, ap (λ b. bit b) none)
+
+  pub count-all : (n : ℕ) (x : X) → p x ≡ true → length (filter p (replicate n x)) ≡ n
+  count-all zero x all = refl
+  count-all (suc n) x all = omega (arith, count-cons x (replicate n x), count-all n x all, ap (λ b. bit b) all)
+
+-- a copy, or what stands for none
+pub copy-at : {X : Type 0} (n i : ℕ) (x : X) → get_or (replicate n x) i x ≡ x
+copy-at zero i x = refl
+copy-at (suc n) zero x = refl
+copy-at (suc n) (suc i) x = copy-at n i x

@@ -1,33 +1,33 @@
 -- What holds of a table after each call.
-use Rattle.std.proofs.Common.{◌≡◌, ◌==◌, ◌<◌, ◌≤◌, ◌+◌, ◌-◌, ℕ, zero, suc, nat_le, Bool, true, false, true≢false, cond, ◌&&◌, List, [], ◌∷◌, ◌++◌, filter, length, replicate, drop, get_or, set, Option, Some, None, is_some, IsSome, IsTrue, inl, inr, refl, sym, ap, ◌∙◌, subst, arith, length-set, get_or-set_same, get_or-set_other, eq-eqb, eqb-true}
+use Rattle.std.proofs.Common.{◌≡◌, ◌==◌, ◌<◌, ◌≤◌, ◌+◌, ◌-◌, ℕ, zero, suc, nat_le, Bool, true, false, true≢false, cond, ◌&&◌, List, [], ◌∷◌, filter, length, replicate, get_or, set, Option, Some, None, is_some, IsSome, IfSome, IsTrue, slice_get, inl, inr, refl, sym, ap, ◌∙◌, subst, arith, length-set, get_or-set_same, get_or-set_other, eq-eqb}
 use Rattle.std.specs.List.{list_all, find}
 use Rattle.std.specs.Option.{option_map_or}
-use Rattle.std.proofs.lemmas.Bool.{cases_eq, cases_lt, ne_eqb}
-use Rattle.std.proofs.lemmas.List.{get_or_past, length_push}
-use Rattle.irp_core.proofs.ByTest.{by_test, by_value}
+use Rattle.std.proofs.lemmas.Bool.{cases_eq, cases_lt, ne_eqb, and_left, and_right, lt-leb}
+use Rattle.std.proofs.lemmas.List.{get_or_past, get_or-replicate, length-replicate, length_push}
+use Rattle.irp_core.proofs.ByTest.{by_value}
 use Rattle.irp_core.proofs.Names.{same_id-refl}
 use Rattle.irp_core.specs.Steps.{same_id}
+use Rattle.irp_core.specs.Words.{bit}
 use Rattle.irp_core.specs.declared.ids.{IrpId.{IrpId}, FileId.{FileId}}
-use Rattle.irp_core.specs.declared.limits.TheConstants.{LARGE_MAX_IRPS}
-use Rattle.request_table.specs.declared.stage.{Why.{Why}, Stage.{Stage, TheVariants.{Free, Listed, Taken, Ending, Spent}}}
-use Rattle.request_table.specs.Stages.{same_file, file_of, is_free, is_spent, is_listed, is_taken, is_under_way, is_for, may_be_due, may_finish, as_taken, as_listed, as_named, as_ending}
-use Rattle.request_table.specs.Times.{due_in}
-use Rattle.request_table.specs.Requests.{Requests, IsSound, stage_of, due_of, times_free, under_way, with_stage, with_due, begun, finished, stage_after, free_after}
+use Rattle.request_table.specs.declared.stage.{Stage.{Stage, TheVariants.{Free, Listed, Taken, Ending, Spent}}}
+use Rattle.request_table.specs.Stages.{same_file, file_of, is_free, is_spent, is_under_way, is_for, may_be_due}
+use Rattle.request_table.specs.Requests.{Requests, IsSound, stage_of, due_of, times_free, with_stage, finished, stage_after, free_after, fresh, ids_below, IsTableSize}
 use Rattle.request_table.specs.Parts.{IsKept}
-use Rattle.request_table.specs.Refusals.{refusal_to_begin}
-use Rattle.request_table.proofs.Counting.{count-cons, count-push, count-set, count-le}
+use Rattle.request_table.specs.declared.refusals.BeginRefused.{BeginRefused, TheVariants.{UnknownFile, Closed, FileClosed, AllSpent, AllUnderWay}}
+use Rattle.request_table.specs.Refusals.{is_cause, refusal_to_begin}
+use Rattle.request_table.proofs.Counting.{count-cons, count-push, count-set, count-le, count-copies, count-all, copy-at}
 
 -- a number whose stage passes a test that Spent fails is known
 pub known-by : (p : Stage → Bool) (stages : List Stage) (i : IrpId) → p Spent ≡ false → p (get_or stages i.0 Spent) ≡ true → i.0 < length stages
-known-by p stages i no yes = elim (cases_lt i.0 (length stages)) [
-  inl low ↦ low
-  | inr past ↦ absurd (true≢false (sym yes ∙ ap p (get_or_past stages i.0 Spent past) ∙ no))
+known-by p stages i never way = elim (cases_lt i.0 (length stages)) [
+  | inl low ↦ low
+  | inr past ↦ absurd (true≢false (sym way ∙ ap p (get_or_past stages i.0 Spent past) ∙ never))
 ]
 
 -- what holds of a number, and of each other one, holds of each
 by_number : (P : IrpId → Type 0) (i : IrpId) → P i → ((j : IrpId) → (j.0 ≡ i.0 → ⊥) → P j) → (j : IrpId) → P j
 by_number P i own others j = elim (cases_eq j.0 i.0) [
-  inl same ↦ (let is : j ≡ i = λ k. record { 0 = same k } in subst P (sym is) own)
+  | inl same ↦ (let is : j ≡ i = λ k. record { 0 = same k } in subst P (sym is) own)
   | inr apart ↦ others j apart
 ]
 
@@ -36,16 +36,20 @@ other-id : (j i : IrpId) → (j.0 ≡ i.0 → ⊥) → same_id j i ≡ false
 unfolding same_id
 other-id j i apart = ne_eqb j.0 i.0 apart
 
+same-number : (j i : IrpId) → j.0 ≡ i.0 → same_id j i ≡ true
+unfolding same_id
+same-number j i is = eq-eqb j.0 i.0 is
+
 -- how many a file has, and how many others have, with one more and with one less for it
 pub one-more : (lens : List ℕ) (f g : FileId) → f.0 < length lens → get_or (set lens f.0 (get_or lens f.0 0 + 1)) g.0 0 ≡ get_or lens g.0 0 + cond (same_file g f) 1 0
 one-more lens f g within = elim (cases_eq g.0 f.0) [
-  inl same ↦ rw (eq-eqb g.0 f.0 same, same) (get_or-set_same lens f.0 _ 0 within)
+  | inl same ↦ rw (eq-eqb g.0 f.0 same, same) (get_or-set_same lens f.0 _ 0 within)
   | inr apart ↦ rw (ne_eqb g.0 f.0 apart) (omega (arith, get_or-set_other lens f.0 g.0 (get_or lens f.0 0 + 1) 0 apart))
 ]
 
 pub one-less : (lens : List ℕ) (f g : FileId) → f.0 < length lens → 1 ≤ get_or lens f.0 0 → get_or (set lens f.0 (get_or lens f.0 0 - 1)) g.0 0 + cond (same_file g f) 1 0 ≡ get_or lens g.0 0
 one-less lens f g within some = elim (cases_eq g.0 f.0) [
-  inl same ↦ rw (eq-eqb g.0 f.0 same, same) (omega (arith, get_or-set_same lens f.0 (get_or lens f.0 0 - 1) 0 within))
+  | inl same ↦ rw (eq-eqb g.0 f.0 same, same) (omega (arith, get_or-set_same lens f.0 (get_or lens f.0 0 - 1) 0 within))
   | inr apart ↦ rw (ne_eqb g.0 f.0 apart) (omega (arith, get_or-set_other lens f.0 g.0 (get_or lens f.0 0 - 1) 0 apart))
 ]
 
@@ -84,54 +88,39 @@ kept-moved lens new all more room r i s free kept move counts all_counts each = 
   where
     stages : List Stage
     stages = set r.stages i.0 s
+
     bit_free : Stage → ℕ
     bit_free x = cond (is_free x) 1 0
+
     here : get_or stages i.0 Spent ≡ s
     here = get_or-set_same r.stages i.0 s Spent move.known
+
     there : (j : IrpId) → (j.0 ≡ i.0 → ⊥) → get_or stages j.0 Spent ≡ stage_of r j
     there j apart = get_or-set_other r.stages i.0 j.0 s Spent apart
+
     same_length : length stages ≡ length r.stages
     same_length = length-set r.stages i.0 s
+
     counted : (f : FileId) → get_or new f.0 0 ≡ length (filter (is_for f) stages)
     counted f = omega (arith, counts f, kept.counted f, count-set (is_for f) r.stages i.0 Spent s move.known)
 
--- another time of one number
-pub kept-due : (lens : List ℕ) (all room : ℕ) (r : Requests) (i : IrpId) (d : Option ℕ) → IsKept lens all room r → i.0 < length r.stages → (IsSome d → IsTrue (may_be_due (stage_of r i))) → IsKept lens all room (with_due i d r)
-kept-due lens all room r i d kept known due = record {
-  sound = record {
-    free_once = kept.sound.free_once;
-    due_waits = by_number (λ j. IsSome (due_in (set r.dues i.0 d) j) → IsTrue (may_be_due (stage_of r j))) i
-        (λ is. due (ap is_some (sym (get_or-set_same r.dues i.0 d None (omega (arith, known, kept.sound.all_have_dues)))) ∙ is))
-        (λ j apart is. kept.sound.due_waits j (ap is_some (sym (get_or-set_other r.dues i.0 j.0 d None apart)) ∙ is));
-    all_have_dues = length-set r.dues i.0 d ∙ kept.sound.all_have_dues;
-    files_known = kept.sound.files_known;
-  };
-  counted = kept.counted;
-  all_counted = kept.all_counted;
-  each_file = kept.each_file;
-  free_counted = kept.free_counted;
-  room_for_each = kept.room_for_each;
-  few = kept.few;
-  few_files = kept.few_files;
-}
-
 -- a request under way isn't free
 pub not-free : (s : Stage) → is_under_way s ≡ true → is_free s ≡ false
-not-free Free yes = absurd (true≢false (sym yes))
-not-free (Listed f) yes = refl
-not-free (Taken f named) yes = refl
-not-free (Ending f why) yes = refl
-not-free Spent yes = refl
+not-free Free way = absurd (true≢false (sym way))
+not-free (Listed f) way = refl
+not-free (Taken f named) way = refl
+not-free (Ending f why) way = refl
+not-free Spent way = refl
 
 -- another stage of a request that stays under way
 pub kept-stage : (lens : List ℕ) (all room : ℕ) (r : Requests) (i : IrpId) (s : Stage) → IsKept lens all room r → is_under_way (stage_of r i) ≡ true → file_of s ≡ file_of (stage_of r i) → (IsSome (due_of r i) → IsTrue (may_be_due s)) → IsKept lens all room (with_stage i s r)
-kept-stage lens all room r i s kept yes file due =
-    let same : is_free s ≡ is_free (stage_of r i) = not-free s (ap is_some file ∙ yes) ∙ sym (not-free (stage_of r i) yes) in
+kept-stage lens all room r i s kept way file due =
+    let same : is_free s ≡ is_free (stage_of r i) = not-free s (ap is_some file ∙ way) ∙ sym (not-free (stage_of r i) way) in
     kept-moved lens lens all all room r i s r.free kept
     (record {
-      known = known-by is_under_way r.stages i refl yes;
+      known = known-by is_under_way r.stages i refl way;
       due = due;
-      free_here = kept.sound.free_once i ∙ ap (λ b. cond b 1 0) (sym same);
+      free_here = kept.sound.free_once i ∙ ap bit (sym same);
       free_else = λ j apart. refl;
       free_count = ap (λ b. length r.free + cond b 1 0) (sym same);
     })
@@ -151,11 +140,14 @@ first-free r i rest sound is =
     twice = ap (λ xs. length (filter (same_id i) xs)) is ∙ count-cons (same_id i) i rest ∙ ap (λ b. length (filter (same_id i) rest) + cond b 1 0) (same_id-refl i)
 
 is-free : (s : Stage) → is_free s ≡ true → s ≡ Free
-is-free Free yes = refl
-is-free (Listed f) yes = absurd (true≢false (sym yes))
-is-free (Taken f named) yes = absurd (true≢false (sym yes))
-is-free (Ending f why) yes = absurd (true≢false (sym yes))
-is-free Spent yes = absurd (true≢false (sym yes))
+is-free Free way = refl
+is-free (Listed f) way = absurd (true≢false (sym way))
+is-free (Taken f named) way = absurd (true≢false (sym way))
+is-free (Ending f why) way = absurd (true≢false (sym way))
+is-free Spent way = absurd (true≢false (sym way))
+
+pub first-known : (r : Requests) (i : IrpId) (rest : List IrpId) → IsSound r → r.free ≡ i ∷ rest → i.0 < length r.stages
+first-known r i rest sound is = known-by is_free r.stages i refl (first-free r i rest sound is).0
 
 pub kept-begun : (lens : List ℕ) (all room : ℕ) (r : Requests) (i : IrpId) (f : FileId) (rest : List IrpId) → IsKept lens all room r → r.free ≡ i ∷ rest → f.0 < length lens
     → IsKept (set lens f.0 (get_or lens f.0 0 + 1)) (all + 1) room (record r { stages = set r.stages i.0 (Listed f); free = rest })
@@ -164,37 +156,40 @@ kept-begun lens all room r i f rest kept is file =
     let was : stage_of r i ≡ Free = is-free (stage_of r i) first.0 in
     kept-moved lens (set lens f.0 (get_or lens f.0 0 + 1)) all (all + 1) room r i (Listed f) rest kept
     (record {
-      known = known-by is_free r.stages i refl first.0;
+      known = first-known r i rest kept.sound is;
       due = λ is. refl;
       free_here = first.1;
       free_else = λ j apart. sym (ap (λ xs. length (filter (same_id j) xs)) is ∙ count-cons (same_id j) i rest ∙ ap (λ b. length (filter (same_id j) rest) + cond b 1 0) (other-id j i apart) ∙ omega arith);
-      free_count = omega (arith, ap length is, ap (λ b. cond b 1 0) first.0);
+      free_count = omega (arith, ap length is, ap bit first.0);
     })
-    (λ g. omega (arith, ap (λ s. cond (is_for g s) 1 0) was, one-more lens f g file))
-    (omega (arith, ap (λ s. cond (is_under_way s) 1 0) was))
+    (λ g. omega (arith, ap (λ s. bit (is_for g s)) was, one-more lens f g file))
+    (omega (arith, ap (λ s. bit (is_under_way s)) was))
     (length-set lens f.0 (get_or lens f.0 0 + 1))
 
 -- a request under way is counted, for a known file
 pub counted-one : (lens : List ℕ) (all room : ℕ) (r : Requests) (i : IrpId) (f : FileId) → IsKept lens all room r → file_of (stage_of r i) ≡ Some f → (f.0 < length lens) × (1 ≤ get_or lens f.0 0) × (1 ≤ all)
-counted-one lens all room r i f kept file = (known, some, omega (arith, kept.all_counted, count-set is_under_way r.stages i.0 Spent Spent within, ap (λ o. cond (is_some o) 1 0) file))
+counted-one lens all room r i f kept file = (known, some, omega (arith, kept.all_counted, count-set is_under_way r.stages i.0 Spent Spent within, ap (λ o. bit (is_some o)) file))
   where
     within : i.0 < length r.stages
     within = known-by is_under_way r.stages i refl (ap is_some file)
-    own : cond (is_for f (stage_of r i)) 1 0 ≡ 1
-    own = ap (λ o. cond (option_map_or (same_file f) o false) 1 0) file ∙ ap (λ b. cond b 1 0) (eq-eqb f.0 f.0 refl)
+
+    own : bit (is_for f (stage_of r i)) ≡ 1
+    own = ap (λ o. bit (option_map_or (same_file f) o false)) file ∙ ap bit (eq-eqb f.0 f.0 refl)
+
     some : 1 ≤ get_or lens f.0 0
     some = omega (arith, kept.counted f, count-set (is_for f) r.stages i.0 Spent Spent within, own)
+
     known : f.0 < length lens
     known = elim (cases_lt f.0 (length lens)) [ inl low ↦ low | inr past ↦ absurd (omega (arith, some, get_or_past lens f.0 0 past)) ]
 
 -- the free numbers, once one more is put back or spent
 free-here : (spent : Bool) (i : IrpId) (free : List IrpId) → length (filter (same_id i) free) ≡ 0 → length (filter (same_id i) (free_after spent i free)) ≡ cond (is_free (stage_after spent)) 1 0
 free-here true i free none = none
-free-here false i free none = omega (arith, count-push (same_id i) free i, none, ap (λ b. cond b 1 0) (same_id-refl i))
+free-here false i free none = omega (arith, count-push (same_id i) free i, none, ap bit (same_id-refl i))
 
 free-else : (spent : Bool) (i j : IrpId) (free : List IrpId) → (j.0 ≡ i.0 → ⊥) → length (filter (same_id j) (free_after spent i free)) ≡ length (filter (same_id j) free)
 free-else true i j free apart = refl
-free-else false i j free apart = omega (arith, count-push (same_id j) free i, ap (λ b. cond b 1 0) (other-id j i apart))
+free-else false i j free apart = omega (arith, count-push (same_id j) free i, ap bit (other-id j i apart))
 
 free-count : (spent : Bool) (i : IrpId) (free : List IrpId) → length (free_after spent i free) ≡ length free + cond (is_free (stage_after spent)) 1 0
 free-count true i free = omega arith
@@ -212,43 +207,97 @@ pub kept-finished : (lens : List ℕ) (all room : ℕ) (r : Requests) (i : IrpId
     → IsKept (set lens f.0 (get_or lens f.0 0 - 1)) (all - 1) room (finished i spent r)
 kept-finished lens all room r i f spent kept file due =
     let one = counted-one lens all room r i f kept file in
-    let yes : is_under_way (stage_of r i) ≡ true = ap is_some file in
-    let no = not-free (stage_of r i) yes in
+    let way : is_under_way (stage_of r i) ≡ true = ap is_some file in
+    let busy = not-free (stage_of r i) way in
     kept-moved lens (set lens f.0 (get_or lens f.0 0 - 1)) all (all - 1) room r i (stage_after spent) (free_after spent i r.free) kept
     (record {
-      known = known-by is_under_way r.stages i refl yes;
+      known = known-by is_under_way r.stages i refl way;
       due = λ is. absurd (true≢false (sym is ∙ ap is_some due));
-      free_here = free-here spent i r.free (kept.sound.free_once i ∙ ap (λ b. cond b 1 0) no);
+      free_here = free-here spent i r.free (kept.sound.free_once i ∙ ap bit busy);
       free_else = λ j apart. free-else spent i j r.free apart;
-      free_count = omega (arith, free-count spent i r.free, ap (λ b. cond b 1 0) no);
+      free_count = omega (arith, free-count spent i r.free, ap bit busy);
     })
-    (λ g. omega (arith, one-less lens f g one.0 one.1, ap (λ o. cond (option_map_or (same_file g) o false) 1 0) file, ap (λ b. cond b 1 0) (over-for spent g)))
-    (omega (arith, one.2, ap (λ b. cond b 1 0) yes, ap (λ b. cond b 1 0) (over-at-all spent)))
+    (λ g. omega (arith, one-less lens f g one.0 one.1, ap (λ o. bit (option_map_or (same_file g) o false)) file, ap bit (over-for spent g)))
+    (omega (arith, one.2, ap bit way, ap bit (over-at-all spent)))
     (length-set lens f.0 (get_or lens f.0 0 - 1))
 
 -- what is under way isn't free, so there is room for it among the free ones
 pub room-for : (lens : List ℕ) (all room : ℕ) (r : Requests) (i : IrpId) → IsKept lens all room r → is_under_way (stage_of r i) ≡ true → length r.free < room
-room-for lens all room r i kept yes =
-    omega (arith, kept.free_counted, kept.room_for_each, count-le is_free (set r.stages i.0 Free), length-set r.stages i.0 Free, count-set is_free r.stages i.0 Spent Free (known-by is_under_way r.stages i refl yes), ap (λ b. cond b 1 0) (not-free (stage_of r i) yes))
+room-for lens all room r i kept way =
+    omega (arith, kept.free_counted, kept.room_for_each, count-le is_free (set r.stages i.0 Free), length-set r.stages i.0 Free, count-set is_free r.stages i.0 Spent Free (known-by is_under_way r.stages i refl way), ap bit (not-free (stage_of r i) way))
 
 -- each number is spent exactly if none is free and none under way
 pub all-spent : (stages : List Stage) → list_all is_spent stages ≡ ((length (filter is_free stages) == 0) && (length (filter is_under_way stages) == 0))
 all-spent [] = refl
-all-spent (Free ∷ stages) = refl
-all-spent (Listed f ∷ stages) = by_value (λ b. false ≡ (b && false)) (length (filter is_free stages) == 0) (λ m. refl) (λ m. refl)
-all-spent (Taken f named ∷ stages) = by_value (λ b. false ≡ (b && false)) (length (filter is_free stages) == 0) (λ m. refl) (λ m. refl)
-all-spent (Ending f why ∷ stages) = by_value (λ b. false ≡ (b && false)) (length (filter is_free stages) == 0) (λ m. refl) (λ m. refl)
+all-spent (Free ∷ stages) = sym (and_left _ _ (ne_eqb (suc (length (filter is_free stages))) 0 (λ e. omega arith)))
+all-spent (Listed f ∷ stages) = sym (and_right _ _ (ne_eqb (suc (length (filter is_under_way stages))) 0 (λ e. omega arith)))
+all-spent (Taken f named ∷ stages) = sym (and_right _ _ (ne_eqb (suc (length (filter is_under_way stages))) 0 (λ e. omega arith)))
+all-spent (Ending f why ∷ stages) = sym (and_right _ _ (ne_eqb (suc (length (filter is_under_way stages))) 0 (λ e. omega arith)))
 all-spent (Spent ∷ stages) = all-spent stages
 
 not-first : {X : Type 0} (b : Bool) (x : X) (rest : Option X) → cond b (Some x) rest ≡ None → (b ≡ false) × (rest ≡ None)
 not-first true x rest is = absurd (cc)
 not-first false x rest is = (refl, is)
 
+-- what is found first isn't there only if none of them holds
+none-holds : {X : Type 0} (p : X → Bool) (x : X) (xs : List X) → find p (x ∷ xs) ≡ None → (p x ≡ false) × (find p xs ≡ None)
+none-holds p x xs is = not-first (p x) x (find p xs) is
+
 -- a request that may begin is for a known file, and a number is free
 pub may-begin : (r : Requests) (f : FileId) → refusal_to_begin r f ≡ None → (nat_le (length r.closed_files) f.0 ≡ false) × ((length r.free == 0) ≡ false)
 may-begin r f none =
-    let unknown = not-first _ _ _ none in
-    let closed = not-first _ _ _ unknown.1 in
-    let file_closed = not-first _ _ _ closed.1 in
-    let spent = not-first _ _ _ file_closed.1 in
-    (unknown.0, (not-first _ _ _ spent.1).0)
+    let p : BeginRefused → Bool = is_cause r f in
+    let known = none-holds p UnknownFile (Closed ∷ FileClosed ∷ AllSpent ∷ AllUnderWay ∷ []) none in
+    let open_table = none-holds p Closed (FileClosed ∷ AllSpent ∷ AllUnderWay ∷ []) known.1 in
+    let open_file = none-holds p FileClosed (AllSpent ∷ AllUnderWay ∷ []) open_table.1 in
+    let unspent = none-holds p AllSpent (AllUnderWay ∷ []) open_file.1 in
+    (known.0, (none-holds p AllUnderWay [] unspent.1).0)
+
+-- a request for a known and open file, in an open table, is refused only for want of a number
+pub refusal-last : (lens : List ℕ) (all room : ℕ) (r q : Requests) (f : FileId) → r ≡ q → IsKept lens all room r → f.0 < length r.closed_files → r.closed ≡ false → get_or r.closed_files f.0 false ≡ false
+    → refusal_to_begin q f ≡ cond (length r.free == 0) (cond (all == 0) (Some AllSpent) (Some AllUnderWay)) None
+refusal-last lens all room r q f is kept known open_table open_file =
+    ap (λ (t : Requests). refusal_to_begin t f) (sym is)
+    ∙ rw (lt-leb (length r.closed_files) f.0 known, open_table, open_file, all-spent r.stages, ← kept.free_counted, ← kept.all_counted)
+    (by_value (λ b. cond (b && (all == 0)) (Some AllSpent) (cond b (Some AllUnderWay) None) ≡ cond b (cond (all == 0) (Some AllSpent) (Some AllUnderWay)) None) (length r.free == 0) (λ m. refl) (λ m. refl))
+
+-- the next number is known and free
+pub next-free : (r : Requests) (free : List IrpId) → IsSound r → r.free ≡ free → (IfSome (slice_get free 0) (λ i. i.0 < length r.stages)) × (IfSome (slice_get free 0) (λ i. stage_of r i ≡ Free))
+next-free r [] sound is = (tt, tt)
+next-free r (i ∷ rest) sound is = (first-known r i rest sound is, is-free (stage_of r i) (first-free r i rest sound is).0)
+
+-- the numbers below n, each once
+ids-out : (n : ℕ) (i : IrpId) → n ≤ i.0 → length (filter (same_id i) (ids_below n)) ≡ 0
+ids-out zero i past = refl
+ids-out (suc n) i past = omega (arith, count-push (same_id i) (ids_below n) (record { 0 = n }), ids-out n i (omega arith), ap bit (other-id i (record { 0 = n }) (λ e. omega arith)))
+
+ids-in : (n : ℕ) (i : IrpId) → i.0 < n → length (filter (same_id i) (ids_below n)) ≡ 1
+ids-in zero i low = absurd (omega arith)
+ids-in (suc n) i low = elim (cases_eq i.0 n) [
+  | inl last ↦ omega (arith, count-push (same_id i) (ids_below n) (record { 0 = n }), ids-out n i (omega arith), ap bit (same-number i (record { 0 = n }) last))
+  | inr before ↦ omega (arith, count-push (same_id i) (ids_below n) (record { 0 = n }), ids-in n i (omega arith), ap bit (other-id i (record { 0 = n }) before))
+]
+
+length-ids : (n : ℕ) → length (ids_below n) ≡ n
+length-ids zero = refl
+length-ids (suc n) = omega (arith, length_push (ids_below n) (record { 0 = n }), length-ids n)
+
+pub kept-fresh : (irps files room : ℕ) → IsTableSize irps files → irps ≤ room → IsKept (replicate files 0) 0 room (fresh irps files)
+kept-fresh irps files room size enough = record {
+  sound = record {
+    free_once = λ i. elim (cases_lt i.0 irps) [
+      | inl low ↦ ids-in irps i low ∙ ap (λ s. bit (is_free s)) (sym (get_or-replicate irps i.0 Free Spent low))
+      | inr past ↦ ids-out irps i past ∙ ap (λ s. bit (is_free s)) (sym (get_or_past (replicate irps Free) i.0 Spent (omega (arith, length-replicate irps Free))))
+    ];
+    due_waits = λ i is. absurd (true≢false (sym is ∙ ap is_some (copy-at irps i.0 None)));
+    all_have_dues = length-replicate irps None ∙ sym (length-replicate irps Free);
+    files_known = λ f past. count-copies (is_for f) irps Free refl;
+  };
+  counted = λ f. copy-at files f.0 0 ∙ sym (count-copies (is_for f) irps Free refl);
+  all_counted = sym (count-copies is_under_way irps Free refl);
+  each_file = length-replicate files 0 ∙ sym (length-replicate files false);
+  free_counted = omega (arith, length-ids irps, count-all is_free irps Free refl);
+  room_for_each = omega (arith, length-replicate irps Free);
+  few = omega (arith, length-replicate irps Free, size.irps_in_range);
+  few_files = omega (arith, length-replicate files false, size.files_in_range);
+}

@@ -1,10 +1,15 @@
 -- What a table keeps beside what it means.
-use Rattle.std.specs.Prelude.{◌≡◌, ℕ, ◌≤◌, List, length, filter, slice_index_or}
-use Rattle.irp_core.specs.declared.ids.FileId.{FileId}
+use Rattle.std.specs.Prelude.{◌≡◌, ℕ, ◌≤◌, Bool, List, length, filter, slice_index_or, Option}
+use Rattle.irp_core.specs.declared.ids.{IrpId.{IrpId}, FileId.{FileId}}
 use Rattle.irp_core.specs.declared.limits.TheConstants.{LARGE_MAX_IRPS}
 use Rattle.request_table.specs.declared.size.TheConstants.{MAX_FILES}
+use Rattle.request_table.specs.declared.stage.Stage.{Stage}
 use Rattle.request_table.specs.Stages.{is_free}
 use Rattle.request_table.specs.Requests.{Requests, IsSound, under_way, under_way_of_all}
+
+-- what the stages, the free numbers, the times and what is closed mean together
+abbrev pub requests_of : List Stage → List IrpId → List (Option ℕ) → Bool → List Bool → Requests
+requests_of stages free dues closed closed_files = record { stages = stages; free = free; dues = dues; closed = closed; closed_files = closed_files }
 
 -- the counts of a table are what is under way, and there is room for each number among the free ones
 pub record IsKept (lens : List ℕ) (all : ℕ) (room : ℕ) (r : Requests) : Type 0 where

@@ -1,5 +1,5 @@
 -- What a table of requests means, what it counts, and how each call changes it.
-use Rattle.std.specs.Prelude.{◌≡◌, ℕ, zero, suc, ◌<◌, ◌≤◌, Bool, false, if◌then◌else◌, List, [], ◌∷◌, ◌++◌, length, filter, drop, replicate, slice_index_or, slice_set, Option, Some, None, IsTrue, IsSome}
+use Rattle.std.specs.Prelude.{◌≡◌, ℕ, zero, suc, ◌≤◌, Bool, false, if◌then◌else◌, List, [], ◌∷◌, ◌++◌, length, filter, drop, replicate, slice_index_or, slice_set, Option, None, IsTrue, IsSome}
 use Rattle.irp_core.specs.declared.ids.{IrpId.{IrpId}, FileId.{FileId}}
 use Rattle.irp_core.specs.declared.limits.TheConstants.{LARGE_MAX_IRPS}
 use Rattle.irp_core.specs.Steps.{same_id}

@@ -34,26 +34,16 @@ pub struct RequestTable<A: Allocator = Global> {
 impl<A: Allocator> Model for RequestTable<A> {
     ghost use Rattle.std.specs.VecDeque.{deque_capacity};
     ghost use Rattle.request_table.specs.Requests.{Requests};
-    ghost use Rattle.request_table.specs.Parts.{IsKept};
+    ghost use Rattle.request_table.specs.Parts.{IsKept, requests_of};
 
     ghost Value = { Requests };
 
-    ghost view = { λ t. record {
-      stages = t.stages.items;
-      free = t.free.items;
-      dues = t.dues;
-      closed = t.closed;
-      closed_files = t.closed_files.items;
-    } };
+    ghost view = { λ t. requests_of t.stages.items t.free.items t.dues t.closed
+        t.closed_files.items };
 
     ghost invariant = { λ t. IsKept t.under_way.of_files.items t.under_way.of_all
-        (deque_capacity t.free) (record {
-          stages = t.stages.items;
-          free = t.free.items;
-          dues = t.dues;
-          closed = t.closed;
-          closed_files = t.closed_files.items;
-        }) };
+        (deque_capacity t.free)
+        (requests_of t.stages.items t.free.items t.dues t.closed t.closed_files.items) };
 }
 
 impl<A: Allocator> RequestTable<A> {
@@ -289,6 +279,8 @@ impl<A: Allocator> RequestTable<A> {
     fn list_first(&mut self, file: FileId) -> IrpId
         requires { refusal_to_begin self.old file ≡ None }
         ensures first { slice_get self.old.free 0 ≡ Some result }
+        ensures known { result.0 < length self.new.stages }
+        ensures waits { IsTrue (may_be_due (stage_of self.new result)) }
         ensures begun { self.new ≡ begun result file self.old }
     {
         let Some(irp) = self.free.pop_front() else {
