@@ -31,7 +31,7 @@ impl<A: Allocator> Model for Dues<A> {
 }
 
 /// A number that is due, and when.
-#[derive(Clone, Copy, Debug, PartialEq, Eq)]
+#[derive(Clone, Copy)]
 pub(crate) struct Due {
     pub(crate) irp: IrpId,
     pub(crate) time: u64,

@@ -1,6 +1,6 @@
 //! Where the request of a number is.
 ghost use Rattle.std.specs.Prelude.{◌≡◌};
-ghost use Rattle.request_table.specs.Stages.{file_of, as_taken, as_listed, as_named, as_ending};
+ghost use Rattle.request_table.specs.Stages.{file_of};
 
 use irp_core::FileId;
 
@@ -44,49 +44,6 @@ impl Stage {
             Stage::Listed { file } | Stage::Taken { file, .. } | Stage::Ending { file, .. } => {
                 Some(file)
             }
-        }
-    }
-
-    /// Taken if it was Listed, and named by nothing; else as it was.
-    pub(crate) fn taken(self) -> Stage
-        ensures { result ≡ as_taken self }
-    {
-        match self {
-            Stage::Listed { file } => Stage::Taken { file, named: None },
-            other => other,
-        }
-    }
-
-    /// Listed if it was Taken, else as it was.
-    pub(crate) fn listed(self) -> Stage
-        ensures { result ≡ as_listed self }
-    {
-        match self {
-            Stage::Taken { file, .. } => Stage::Listed { file },
-            other => other,
-        }
-    }
-
-    /// Named if it was Taken and nothing named it yet, else as it was.
-    pub(crate) fn named(self, why: Why) -> Stage
-        ensures { result ≡ as_named why self }
-    {
-        match self {
-            Stage::Taken { file, named: None } => Stage::Taken {
-                file,
-                named: Some(why),
-            },
-            other => other,
-        }
-    }
-
-    /// Ending if it was Listed, else as it was.
-    pub(crate) fn ending(self, why: Why) -> Stage
-        ensures { result ≡ as_ending why self }
-    {
-        match self {
-            Stage::Listed { file } => Stage::Ending { file, why },
-            other => other,
         }
     }
 }

@@ -83,7 +83,7 @@ impl<A: Allocator> RequestTable<A> {
 
     /// What holds of every table: a number stands among the free ones once if its stage is Free and else
     /// never, what is due is Listed or Taken, and what is under way is for a known file. Nothing is run.
-    pub fn is_sound(&self)
+    pub fn sound(&self)
         ensures { IsSound self.now }
     {
         let _ = &self.closed;
@@ -177,8 +177,10 @@ impl<A: Allocator> RequestTable<A> {
         requires { IsTrue (is_listed (stage_of self.old irp)) }
         ensures { self.new ≡ with_stage irp (as_taken (stage_of self.old irp)) self.old }
     {
-        let stage = self.stage(irp).taken();
-        self.set_stage(irp, stage);
+        let Stage::Listed { file } = self.stage(irp) else {
+            unreachable!()
+        };
+        self.set_stage(irp, Stage::Taken { file, named: None });
     }
 
     /// Lists a taken request again. Its time stays, and what named it is forgotten.
@@ -186,8 +188,10 @@ impl<A: Allocator> RequestTable<A> {
         requires { IsTrue (is_taken (stage_of self.old irp)) }
         ensures { self.new ≡ with_stage irp (as_listed (stage_of self.old irp)) self.old }
     {
-        let stage = self.stage(irp).listed();
-        self.set_stage(irp, stage);
+        let Stage::Taken { file, .. } = self.stage(irp) else {
+            unreachable!()
+        };
+        self.set_stage(irp, Stage::Listed { file });
     }
 
     /// Names a taken request. What named it first stays.
@@ -195,8 +199,10 @@ impl<A: Allocator> RequestTable<A> {
         requires { IsTrue (is_taken (stage_of self.old irp)) }
         ensures { self.new ≡ with_stage irp (as_named why (stage_of self.old irp)) self.old }
     {
-        let stage = self.stage(irp).named(why);
-        self.set_stage(irp, stage);
+        if let Stage::Taken { file, named: None } = self.stage(irp) {
+            let named = Some(why);
+            self.set_stage(irp, Stage::Taken { file, named });
+        }
     }
 
     /// Begins the end of a listed request, for this reason: it becomes Ending, and isn't due any more.
@@ -205,9 +211,11 @@ impl<A: Allocator> RequestTable<A> {
         ensures { self.new ≡ with_due irp None
             (with_stage irp (as_ending why (stage_of self.old irp)) self.old) }
     {
-        let stage = self.stage(irp).ending(why);
+        let Stage::Listed { file } = self.stage(irp) else {
+            unreachable!()
+        };
         self.set_due(irp, None);
-        self.set_stage(irp, stage);
+        self.set_stage(irp, Stage::Ending { file, why });
     }
 
     /// Ends a request that is Taken or Ending. Its number is spent if the caller says so; else it is free
@@ -221,7 +229,6 @@ impl<A: Allocator> RequestTable<A> {
         ensures all_are_quiet { result.all_are_quiet ≡ (under_way_of_all self.new == 0) }
     {
         let Some(file) = self.stage(irp).file() else {
-            // What may finish is under way.
             unreachable!()
         };
         self.set_due(irp, None);

@@ -6,23 +6,12 @@ use Rattle.request_table.specs.Parts.{requests_of}
 use Rattle.request_table.proofs.Keeping.{counted-one, room-for, kept-finished}
 use Rattle.request_table.proofs.table.RequestTable.let_go.Goals as goal
 
-pub take-requires-clause-known : goal.take-requires-clause-known
-take-requires-clause-known g c =
+pub take-requires : goal.take-requires
+take-requires g c =
     let t = c.self.inside in
-    (counted-one t.under_way.of_files.items t.under_way.of_all (deque_capacity t.free) (requests_of t.stages.items t.free.items t.dues t.closed t.closed_files.items) c.args.irp c.args.file c.self.invariant
-    (ap (λ (q : Requests). file_of (stage_of q c.args.irp)) c.self.view_is ∙ c.requires.file)).0
-
-pub take-requires-clause-some : goal.take-requires-clause-some
-take-requires-clause-some g c =
-    let t = c.self.inside in
-    (counted-one t.under_way.of_files.items t.under_way.of_all (deque_capacity t.free) (requests_of t.stages.items t.free.items t.dues t.closed t.closed_files.items) c.args.irp c.args.file c.self.invariant
-    (ap (λ (q : Requests). file_of (stage_of q c.args.irp)) c.self.view_is ∙ c.requires.file)).1
-
-pub take-requires-clause-some_at_all : goal.take-requires-clause-some_at_all
-take-requires-clause-some_at_all g c =
-    let t = c.self.inside in
-    (counted-one t.under_way.of_files.items t.under_way.of_all (deque_capacity t.free) (requests_of t.stages.items t.free.items t.dues t.closed t.closed_files.items) c.args.irp c.args.file c.self.invariant
-    (ap (λ (q : Requests). file_of (stage_of q c.args.irp)) c.self.view_is ∙ c.requires.file)).2
+    let one = counted-one t.under_way.of_files.items t.under_way.of_all (deque_capacity t.free) (requests_of t.stages.items t.free.items t.dues t.closed t.closed_files.items) c.args.irp c.args.file c.self.invariant
+    (ap (λ (q : Requests). file_of (stage_of q c.args.irp)) c.self.view_is ∙ c.requires.file) in
+    record { known = one.0; some = one.1; some_at_all = one.2 }
 
 pub put_back-requires : goal.put_back-requires
 put_back-requires g c =
