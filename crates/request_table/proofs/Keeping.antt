@@ -1,8 +1,8 @@
 -- What holds of a table after each call.
-use Rattle.std.proofs.Common.{◌≡◌, ◌==◌, ◌<◌, ◌≤◌, ◌+◌, ◌-◌, ℕ, zero, suc, nat_le, Bool, true, false, true≢false, cond, ◌&&◌, List, [], ◌∷◌, filter, length, replicate, get_or, set, Option, Some, None, is_some, IsSome, IfSome, IsTrue, slice_get, inl, inr, refl, sym, ap, ◌∙◌, subst, arith, length-set, get_or-set_same, get_or-set_other, eq-eqb}
-use Rattle.std.specs.List.{list_all, find}
+use Rattle.std.proofs.Common.{◌≡◌, ◌==◌, ◌<◌, ◌≤◌, ◌+◌, ◌-◌, ℕ, zero, suc, Bool, true, false, true≢false, cond, ◌&&◌, List, [], ◌∷◌, filter, length, replicate, get_or, set, Some, None, is_some, IsSome, IfSome, IsTrue, slice_get, inl, inr, refl, sym, ap, ◌∙◌, subst, arith, length-set, get_or-set_same, get_or-set_other, eq-eqb}
+use Rattle.std.specs.List.{list_all}
 use Rattle.std.specs.Option.{option_map_or}
-use Rattle.std.proofs.lemmas.Bool.{cases_eq, cases_lt, ne_eqb, and_left, and_right, lt-leb}
+use Rattle.std.proofs.lemmas.Bool.{cases_eq, cases_lt, ne_eqb, and_left, and_right, lt-leb, le-leb}
 use Rattle.std.proofs.lemmas.List.{get_or_past, get_or-replicate, length-replicate, length_push}
 use Rattle.irp_core.proofs.ByTest.{by_value}
 use Rattle.irp_core.proofs.Names.{same_id-refl}
@@ -13,8 +13,8 @@ use Rattle.request_table.specs.declared.stage.{Stage.{Stage, TheVariants.{Free, 
 use Rattle.request_table.specs.Stages.{same_file, file_of, is_free, is_spent, is_under_way, is_for, may_be_due}
 use Rattle.request_table.specs.Requests.{Requests, IsSound, stage_of, due_of, times_free, with_stage, finished, stage_after, free_after, fresh, ids_below, IsTableSize}
 use Rattle.request_table.specs.Parts.{IsKept}
-use Rattle.request_table.specs.declared.refusals.BeginRefused.{BeginRefused, TheVariants.{UnknownFile, Closed, FileClosed, AllSpent, AllUnderWay}}
-use Rattle.request_table.specs.Refusals.{is_cause, refusal_to_begin}
+use Rattle.request_table.specs.declared.refusals.BeginRefused.{TheVariants.{UnknownFile, AllSpent, AllUnderWay}}
+use Rattle.request_table.specs.Refusals.{refusal_to_begin}
 use Rattle.request_table.proofs.Counting.{count-cons, count-push, count-set, count-le, count-copies, count-all, copy-at}
 
 -- a number whose stage passes a test that Spent fails is known
@@ -61,12 +61,12 @@ pub record IsMove (r : Requests) (i : IrpId) (s : Stage) (free : List IrpId) : T
   pub free_else : (j : IrpId) → (j.0 ≡ i.0 → ⊥) → length (filter (same_id j) free) ≡ times_free r j
   pub free_count : length free + cond (is_free (stage_of r i)) 1 0 ≡ length r.free + cond (is_free s) 1 0
 
-pub kept-moved : (lens new : List ℕ) (all more room : ℕ) (r : Requests) (i : IrpId) (s : Stage) (free : List IrpId) → IsKept lens all room r → IsMove r i s free
+pub kept-moved : {lens : List ℕ} {all room : ℕ} {r : Requests} → IsKept lens all room r → {i : IrpId} {s : Stage} {free : List IrpId} → IsMove r i s free → (new : List ℕ) (more : ℕ)
     → ((f : FileId) → get_or new f.0 0 + cond (is_for f (stage_of r i)) 1 0 ≡ get_or lens f.0 0 + cond (is_for f s) 1 0)
     → more + cond (is_under_way (stage_of r i)) 1 0 ≡ all + cond (is_under_way s) 1 0
     → length new ≡ length lens
     → IsKept new more room (record r { stages = set r.stages i.0 s; free = free })
-kept-moved lens new all more room r i s free kept move counts all_counts each = record {
+kept-moved {lens} {all} {room} {r} kept {i} {s} {free} move new more counts all_counts each = record {
   sound = record {
     free_once = by_number (λ j. length (filter (same_id j) free) ≡ cond (is_free (get_or stages j.0 Spent)) 1 0) i
         (move.free_here ∙ ap bit_free (sym here))
@@ -113,17 +113,17 @@ not-free (Ending f why) way = refl
 not-free Spent way = refl
 
 -- another stage of a request that stays under way
-pub kept-stage : (lens : List ℕ) (all room : ℕ) (r : Requests) (i : IrpId) (s : Stage) → IsKept lens all room r → is_under_way (stage_of r i) ≡ true → file_of s ≡ file_of (stage_of r i) → (IsSome (due_of r i) → IsTrue (may_be_due s)) → IsKept lens all room (with_stage i s r)
-kept-stage lens all room r i s kept way file due =
+pub kept-stage : {lens : List ℕ} {all room : ℕ} {r : Requests} → IsKept lens all room r → (i : IrpId) (s : Stage) → is_under_way (stage_of r i) ≡ true → file_of s ≡ file_of (stage_of r i) → (IsSome (due_of r i) → IsTrue (may_be_due s)) → IsKept lens all room (with_stage i s r)
+kept-stage {lens} {all} {room} {r} kept i s way file due =
     let same : is_free s ≡ is_free (stage_of r i) = not-free s (ap is_some file ∙ way) ∙ sym (not-free (stage_of r i) way) in
-    kept-moved lens lens all all room r i s r.free kept
-    (record {
+    let move : IsMove r i s r.free = record {
       known = known-by is_under_way r.stages i refl way;
       due = due;
       free_here = kept.sound.free_once i ∙ ap bit (sym same);
       free_else = λ j apart. refl;
       free_count = ap (λ b. length r.free + cond b 1 0) (sym same);
-    })
+    } in
+    kept-moved kept move lens all
     (λ f. ap (λ o. get_or lens f.0 0 + cond (option_map_or (same_file f) o false) 1 0) (sym file))
     (ap (λ o. all + cond (is_some o) 1 0) (sym file))
     refl
@@ -146,29 +146,29 @@ is-free (Taken f named) way = absurd (true≢false (sym way))
 is-free (Ending f why) way = absurd (true≢false (sym way))
 is-free Spent way = absurd (true≢false (sym way))
 
-pub first-known : (r : Requests) (i : IrpId) (rest : List IrpId) → IsSound r → r.free ≡ i ∷ rest → i.0 < length r.stages
-first-known r i rest sound is = known-by is_free r.stages i refl (first-free r i rest sound is).0
+pub first-known : {r : Requests} → IsSound r → (i : IrpId) (rest : List IrpId) → r.free ≡ i ∷ rest → i.0 < length r.stages
+first-known {r} sound i rest is = known-by is_free r.stages i refl (first-free r i rest sound is).0
 
-pub kept-begun : (lens : List ℕ) (all room : ℕ) (r : Requests) (i : IrpId) (f : FileId) (rest : List IrpId) → IsKept lens all room r → r.free ≡ i ∷ rest → f.0 < length lens
+pub kept-begun : {lens : List ℕ} {all room : ℕ} {r : Requests} → IsKept lens all room r → (i : IrpId) (f : FileId) (rest : List IrpId) → r.free ≡ i ∷ rest → f.0 < length lens
     → IsKept (set lens f.0 (get_or lens f.0 0 + 1)) (all + 1) room (record r { stages = set r.stages i.0 (Listed f); free = rest })
-kept-begun lens all room r i f rest kept is file =
+kept-begun {lens} {all} {room} {r} kept i f rest is file =
     let first = first-free r i rest kept.sound is in
     let was : stage_of r i ≡ Free = is-free (stage_of r i) first.0 in
-    kept-moved lens (set lens f.0 (get_or lens f.0 0 + 1)) all (all + 1) room r i (Listed f) rest kept
-    (record {
-      known = first-known r i rest kept.sound is;
+    let move : IsMove r i (Listed f) rest = record {
+      known = first-known kept.sound i rest is;
       due = λ is. refl;
       free_here = first.1;
       free_else = λ j apart. sym (ap (λ xs. length (filter (same_id j) xs)) is ∙ count-cons (same_id j) i rest ∙ ap (λ b. length (filter (same_id j) rest) + cond b 1 0) (other-id j i apart) ∙ omega arith);
       free_count = omega (arith, ap length is, ap bit first.0);
-    })
+    } in
+    kept-moved kept move (set lens f.0 (get_or lens f.0 0 + 1)) (all + 1)
     (λ g. omega (arith, ap (λ s. bit (is_for g s)) was, one-more lens f g file))
     (omega (arith, ap (λ s. bit (is_under_way s)) was))
     (length-set lens f.0 (get_or lens f.0 0 + 1))
 
 -- a request under way is counted, for a known file
-pub counted-one : (lens : List ℕ) (all room : ℕ) (r : Requests) (i : IrpId) (f : FileId) → IsKept lens all room r → file_of (stage_of r i) ≡ Some f → (f.0 < length lens) × (1 ≤ get_or lens f.0 0) × (1 ≤ all)
-counted-one lens all room r i f kept file = (known, some, omega (arith, kept.all_counted, count-set is_under_way r.stages i.0 Spent Spent within, ap (λ o. bit (is_some o)) file))
+pub counted-one : {lens : List ℕ} {all room : ℕ} {r : Requests} → IsKept lens all room r → (i : IrpId) (f : FileId) → file_of (stage_of r i) ≡ Some f → (f.0 < length lens) × (1 ≤ get_or lens f.0 0) × (1 ≤ all)
+counted-one {lens} {all} {room} {r} kept i f file = (known, some, omega (arith, kept.all_counted, count-set is_under_way r.stages i.0 Spent Spent within, ap (λ o. bit (is_some o)) file))
   where
     within : i.0 < length r.stages
     within = known-by is_under_way r.stages i refl (ap is_some file)
@@ -203,27 +203,27 @@ over-at-all : (spent : Bool) → is_under_way (stage_after spent) ≡ false
 over-at-all true = refl
 over-at-all false = refl
 
-pub kept-finished : (lens : List ℕ) (all room : ℕ) (r : Requests) (i : IrpId) (f : FileId) (spent : Bool) → IsKept lens all room r → file_of (stage_of r i) ≡ Some f → due_of r i ≡ None
+pub kept-finished : {lens : List ℕ} {all room : ℕ} {r : Requests} → IsKept lens all room r → (i : IrpId) (f : FileId) (spent : Bool) → file_of (stage_of r i) ≡ Some f → due_of r i ≡ None
     → IsKept (set lens f.0 (get_or lens f.0 0 - 1)) (all - 1) room (finished i spent r)
-kept-finished lens all room r i f spent kept file due =
-    let one = counted-one lens all room r i f kept file in
+kept-finished {lens} {all} {room} {r} kept i f spent file due =
+    let one = counted-one kept i f file in
     let way : is_under_way (stage_of r i) ≡ true = ap is_some file in
     let busy = not-free (stage_of r i) way in
-    kept-moved lens (set lens f.0 (get_or lens f.0 0 - 1)) all (all - 1) room r i (stage_after spent) (free_after spent i r.free) kept
-    (record {
+    let move : IsMove r i (stage_after spent) (free_after spent i r.free) = record {
       known = known-by is_under_way r.stages i refl way;
       due = λ is. absurd (true≢false (sym is ∙ ap is_some due));
       free_here = free-here spent i r.free (kept.sound.free_once i ∙ ap bit busy);
       free_else = λ j apart. free-else spent i j r.free apart;
       free_count = omega (arith, free-count spent i r.free, ap bit busy);
-    })
+    } in
+    kept-moved kept move (set lens f.0 (get_or lens f.0 0 - 1)) (all - 1)
     (λ g. omega (arith, one-less lens f g one.0 one.1, ap (λ o. bit (option_map_or (same_file g) o false)) file, ap bit (over-for spent g)))
     (omega (arith, one.2, ap bit way, ap bit (over-at-all spent)))
     (length-set lens f.0 (get_or lens f.0 0 - 1))
 
 -- what is under way isn't free, so there is room for it among the free ones
-pub room-for : (lens : List ℕ) (all room : ℕ) (r : Requests) (i : IrpId) → IsKept lens all room r → is_under_way (stage_of r i) ≡ true → length r.free < room
-room-for lens all room r i kept way =
+pub room-for : {lens : List ℕ} {all room : ℕ} {r : Requests} → IsKept lens all room r → (i : IrpId) → is_under_way (stage_of r i) ≡ true → length r.free < room
+room-for {lens} {all} {room} {r} kept i way =
     omega (arith, kept.free_counted, kept.room_for_each, count-le is_free (set r.stages i.0 Free), length-set r.stages i.0 Free, count-set is_free r.stages i.0 Spent Free (known-by is_under_way r.stages i refl way), ap bit (not-free (stage_of r i) way))
 
 -- each number is spent exactly if none is free and none under way
@@ -235,28 +235,17 @@ all-spent (Taken f named ∷ stages) = sym (and_right _ _ (ne_eqb (suc (length (
 all-spent (Ending f why ∷ stages) = sym (and_right _ _ (ne_eqb (suc (length (filter is_under_way stages))) 0 (λ e. omega arith)))
 all-spent (Spent ∷ stages) = all-spent stages
 
-not-first : {X : Type 0} (b : Bool) (x : X) (rest : Option X) → cond b (Some x) rest ≡ None → (b ≡ false) × (rest ≡ None)
-not-first true x rest is = absurd (cc)
-not-first false x rest is = (refl, is)
-
--- what is found first isn't there only if none of them holds
-none-holds : {X : Type 0} (p : X → Bool) (x : X) (xs : List X) → find p (x ∷ xs) ≡ None → (p x ≡ false) × (find p xs ≡ None)
-none-holds p x xs is = not-first (p x) x (find p xs) is
-
--- a request that may begin is for a known file, and a number is free
-pub may-begin : (r : Requests) (f : FileId) → refusal_to_begin r f ≡ None → (nat_le (length r.closed_files) f.0 ≡ false) × ((length r.free == 0) ≡ false)
-may-begin r f none =
-    let p : BeginRefused → Bool = is_cause r f in
-    let known = none-holds p UnknownFile (Closed ∷ FileClosed ∷ AllSpent ∷ AllUnderWay ∷ []) none in
-    let open_table = none-holds p Closed (FileClosed ∷ AllSpent ∷ AllUnderWay ∷ []) known.1 in
-    let open_file = none-holds p FileClosed (AllSpent ∷ AllUnderWay ∷ []) open_table.1 in
-    let unspent = none-holds p AllSpent (AllUnderWay ∷ []) open_file.1 in
-    (known.0, (none-holds p AllUnderWay [] unspent.1).0)
+-- a request that may begin is for a known file
+pub may-begin : (r : Requests) (f : FileId) → refusal_to_begin r f ≡ None → f.0 < length r.closed_files
+may-begin r f none = elim (cases_lt f.0 (length r.closed_files)) [
+  | inl low ↦ low
+  | inr past ↦ (let unknown : Some UnknownFile ≡ None = rw (le-leb (length r.closed_files) f.0 past) at none in absurd (cc))
+]
 
 -- a request for a known and open file, in an open table, is refused only for want of a number
-pub refusal-last : (lens : List ℕ) (all room : ℕ) (r q : Requests) (f : FileId) → r ≡ q → IsKept lens all room r → f.0 < length r.closed_files → r.closed ≡ false → get_or r.closed_files f.0 false ≡ false
+pub refusal-last : {lens : List ℕ} {all room : ℕ} {r : Requests} → IsKept lens all room r → (q : Requests) (f : FileId) → r ≡ q → f.0 < length r.closed_files → r.closed ≡ false → get_or r.closed_files f.0 false ≡ false
     → refusal_to_begin q f ≡ cond (length r.free == 0) (cond (all == 0) (Some AllSpent) (Some AllUnderWay)) None
-refusal-last lens all room r q f is kept known open_table open_file =
+refusal-last {lens} {all} {room} {r} kept q f is known open_table open_file =
     ap (λ (t : Requests). refusal_to_begin t f) (sym is)
     ∙ rw (lt-leb (length r.closed_files) f.0 known, open_table, open_file, all-spent r.stages, ← kept.free_counted, ← kept.all_counted)
     (by_value (λ b. cond (b && (all == 0)) (Some AllSpent) (cond b (Some AllUnderWay) None) ≡ cond b (cond (all == 0) (Some AllSpent) (Some AllUnderWay)) None) (length r.free == 0) (λ m. refl) (λ m. refl))
@@ -264,7 +253,7 @@ refusal-last lens all room r q f is kept known open_table open_file =
 -- the next number is known and free
 pub next-free : (r : Requests) (free : List IrpId) → IsSound r → r.free ≡ free → (IfSome (slice_get free 0) (λ i. i.0 < length r.stages)) × (IfSome (slice_get free 0) (λ i. stage_of r i ≡ Free))
 next-free r [] sound is = (tt, tt)
-next-free r (i ∷ rest) sound is = (first-known r i rest sound is, is-free (stage_of r i) (first-free r i rest sound is).0)
+next-free r (i ∷ rest) sound is = (first-known sound i rest is, is-free (stage_of r i) (first-free r i rest sound is).0)
 
 -- the numbers below n, each once
 ids-out : (n : ℕ) (i : IrpId) → n ≤ i.0 → length (filter (same_id i) (ids_below n)) ≡ 0

@@ -1,5 +1,5 @@
 -- The tree of times: what a write from a leaf up leaves true, and that node 1 is the least.
-use Rattle.std.proofs.Common.{◌≡◌, ◌≢◌, ◌<◌, ◌≤◌, ◌^◌, inl, inr, ◌+◌, ◌-◌, ◌*◌, ◌/◌, ℕ, zero, suc, min, List, ◌∷◌, replicate, length, get_or, set, drop, map, unwrap_or, Option, Some, None, refl, sym, ap, ◌∙◌, subst, arith, length-set, get_or-set_same, get_or-set_other}
+use Rattle.std.proofs.Common.{◌≡◌, ◌≢◌, ◌<◌, ◌≤◌, ◌^◌, inl, inr, ◌+◌, ◌-◌, ◌*◌, ◌/◌, ℕ, zero, suc, List, ◌∷◌, replicate, length, get_or, set, drop, map, unwrap_or, Option, Some, None, refl, sym, ap, ◌∙◌, arith}
 use Rattle.std.specs.Option.{ForSome}
 use Rattle.std.proofs.lemmas.Bool.{cases_eq, cases_lt, lt-ltb, le-ltb}
 use Rattle.std.proofs.lemmas.List.{get_or-drop, map-set, get_or_default, get_or_past, set-get_or, drop-replicate}

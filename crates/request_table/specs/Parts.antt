@@ -2,7 +2,7 @@
 use Rattle.std.specs.Prelude.{◌≡◌, ℕ, ◌≤◌, Bool, List, length, filter, slice_index_or, Option}
 use Rattle.irp_core.specs.declared.ids.{IrpId.{IrpId}, FileId.{FileId}}
 use Rattle.irp_core.specs.declared.limits.TheConstants.{LARGE_MAX_IRPS}
-use Rattle.request_table.specs.declared.size.TheConstants.{MAX_FILES}
+use Rattle.request_table.specs.declared.table.TheConstants.{MAX_FILES}
 use Rattle.request_table.specs.declared.stage.Stage.{Stage}
 use Rattle.request_table.specs.Stages.{is_free}
 use Rattle.request_table.specs.Requests.{Requests, IsSound, under_way, under_way_of_all}

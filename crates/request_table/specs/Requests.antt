@@ -3,7 +3,7 @@ use Rattle.std.specs.Prelude.{◌≡◌, ℕ, zero, suc, ◌≤◌, Bool, false,
 use Rattle.irp_core.specs.declared.ids.{IrpId.{IrpId}, FileId.{FileId}}
 use Rattle.irp_core.specs.declared.limits.TheConstants.{LARGE_MAX_IRPS}
 use Rattle.irp_core.specs.Steps.{same_id}
-use Rattle.request_table.specs.declared.size.TheConstants.{MAX_FILES}
+use Rattle.request_table.specs.declared.table.TheConstants.{MAX_FILES}
 use Rattle.request_table.specs.declared.stage.Stage.{Stage, TheVariants.{Free, Listed, Spent}}
 use Rattle.request_table.specs.Stages.{is_free, is_under_way, is_for, may_be_due}
 use Rattle.request_table.specs.Times.{due_in}

@@ -4,13 +4,10 @@
 
 mod dues;
 mod refusals;
-mod size;
 mod stage;
 mod table;
-mod under_way;
 
 pub use dues::NEVER;
 pub use refusals::BeginRefused;
-pub use size::MAX_FILES;
 pub use stage::{Ended, Stage, Why};
-pub use table::RequestTable;
+pub use table::{MAX_FILES, RequestTable};

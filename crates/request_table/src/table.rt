@@ -9,13 +9,14 @@ ghost use Rattle.request_table.specs.Refusals.{refusal_to_begin};
 
 use crate::dues::{Dues, NEVER};
 use crate::refusals::BeginRefused;
-use crate::size::is_table_size;
 use crate::stage::{Ended, Stage, Why};
-use crate::under_way::UnderWay;
-use irp_core::{FileId, IrpId, SizeRefused};
+use irp_core::{FileId, IrpId, LARGE_MAX_IRPS, SizeRefused};
 use std::alloc::{AllocError, Allocator, Global};
 use std::collections::VecDeque;
 use std::marker::Model;
+
+/// The most file objects of a table. This project's own limit.
+pub const MAX_FILES: u32 = 65_535;
 
 /// Which number is free, listed, taken, ending or spent, for which file object, and when it is due. Every
 /// call takes constant time, but that `expire` and `next_due`, and each call by which a number becomes due
@@ -26,7 +27,9 @@ pub struct RequestTable<A: Allocator = Global> {
     // Used as a ring: the first has been free longest.
     free: VecDeque<IrpId, A>,
     dues: Dues<A>,
-    under_way: UnderWay<A>,
+    // How many requests are under way for each file, and for all.
+    lens: Vec<u32, A>,
+    all: u32,
     closed: bool,
     closed_files: Vec<bool, A>,
 }
@@ -41,8 +44,7 @@ impl<A: Allocator> Model for RequestTable<A> {
     ghost view = { λ t. requests_of t.stages.items t.free.items t.dues t.closed
         t.closed_files.items };
 
-    ghost invariant = { λ t. IsKept t.under_way.of_files.items t.under_way.of_all
-        (deque_capacity t.free)
+    ghost invariant = { λ t. IsKept t.lens.items t.all (deque_capacity t.free)
         (requests_of t.stages.items t.free.items t.dues t.closed t.closed_files.items) };
 }
 
@@ -58,7 +60,7 @@ impl<A: Allocator> RequestTable<A> {
         ensures made { IfOk result (λ table. table ≡ fresh irps files) }
         ensures bad_size { (result ≡ Err SizeRefused.BadSize) ↔ ¬ IsTableSize irps files }
     {
-        if !is_table_size(irps, files) {
+        if !(1..=LARGE_MAX_IRPS).contains(&irps) || !(1..=MAX_FILES).contains(&files) {
             return Err(SizeRefused::BadSize);
         }
         Ok(RequestTable::with_size(alloc, irps, files)?)
@@ -75,7 +77,8 @@ impl<A: Allocator> RequestTable<A> {
             stages: vec![in alloc.clone()?; Stage::Free; irps as usize]?,
             free: all_numbers(alloc.clone()?, irps)?,
             dues: Dues::new(alloc.clone()?, irps)?,
-            under_way: UnderWay::new(alloc.clone()?, files)?,
+            lens: vec![in alloc.clone()?; 0; files as usize]?,
+            all: 0,
             closed: false,
             closed_files: vec![in alloc; false; files as usize]?,
         })
@@ -117,14 +120,17 @@ impl<A: Allocator> RequestTable<A> {
     pub fn len(&self, file: FileId) -> u32
         ensures { result ≡ under_way self.now file }
     {
-        self.under_way.of(file)
+        if file.0 as usize >= self.lens.len() {
+            return 0;
+        }
+        self.lens[file.0 as usize]
     }
 
     /// How many requests are under way for all files.
     pub fn len_of_all(&self) -> u32
         ensures { result ≡ under_way_of_all self.now }
     {
-        self.under_way.of_all()
+        self.all
     }
 
     /// Why no request for this file may begin: the first cause that holds, in the order of
@@ -144,7 +150,7 @@ impl<A: Allocator> RequestTable<A> {
         if !self.free.is_empty() {
             return None;
         }
-        if self.under_way.of_all() == 0 {
+        if self.all == 0 {
             return Some(BeginRefused::AllSpent);
         }
         Some(BeginRefused::AllUnderWay)
@@ -294,7 +300,8 @@ impl<A: Allocator> RequestTable<A> {
             // A request may begin only if a number is free.
             unreachable!()
         };
-        self.under_way.add(file);
+        self.lens[file.0 as usize] += 1;
+        self.all += 1;
         self.stages[irp.0 as usize] = Stage::Listed { file };
         irp
     }
@@ -325,7 +332,8 @@ impl<A: Allocator> RequestTable<A> {
         requires due { due_of self.old irp ≡ None }
         ensures { self.new ≡ finished irp spent self.old }
     {
-        self.under_way.take(file);
+        self.lens[file.0 as usize] -= 1;
+        self.all -= 1;
         self.stages[irp.0 as usize] = stage_after(spent);
         put_back(&mut self.free, irp, spent);
     }
