@@ -25,14 +25,14 @@ known-by p stages i never way = elim (cases_lt i.0 (length stages)) [
 ]
 
 -- what holds of a number, and of each other one, holds of each
-by_number : (P : IrpId → Type 0) (i : IrpId) → P i → ((j : IrpId) → (j.0 ≡ i.0 → ⊥) → P j) → (j : IrpId) → P j
+pub by_number : (P : IrpId → Type 0) (i : IrpId) → P i → ((j : IrpId) → (j.0 ≡ i.0 → ⊥) → P j) → (j : IrpId) → P j
 by_number P i own others j = elim (cases_eq j.0 i.0) [
   | inl same ↦ (let is : j ≡ i = λ k. record { 0 = same k } in subst P (sym is) own)
   | inr apart ↦ others j apart
 ]
 
 -- two numbers that aren't one
-other-id : (j i : IrpId) → (j.0 ≡ i.0 → ⊥) → same_id j i ≡ false
+pub other-id : (j i : IrpId) → (j.0 ≡ i.0 → ⊥) → same_id j i ≡ false
 unfolding same_id
 other-id j i apart = ne_eqb j.0 i.0 apart
 
@@ -61,6 +61,15 @@ pub record IsMove (r : Requests) (i : IrpId) (s : Stage) (free : List IrpId) : T
   pub free_else : (j : IrpId) → (j.0 ≡ i.0 → ⊥) → length (filter (same_id j) free) ≡ times_free r j
   pub free_count : length free + cond (is_free (stage_of r i)) 1 0 ≡ length r.free + cond (is_free s) 1 0
 
+-- each number stands among the free ones as often as its stage says, also after another stage of one
+pub once-moved : (r : Requests) → ((j : IrpId) → times_free r j ≡ cond (is_free (stage_of r j)) 1 0) → (i : IrpId) (s : Stage) (free : List IrpId) → i.0 < length r.stages
+    → length (filter (same_id i) free) ≡ cond (is_free s) 1 0
+    → ((j : IrpId) → (j.0 ≡ i.0 → ⊥) → length (filter (same_id j) free) ≡ times_free r j)
+    → (j : IrpId) → length (filter (same_id j) free) ≡ cond (is_free (get_or (set r.stages i.0 s) j.0 Spent)) 1 0
+once-moved r once i s free known here others = by_number (λ j. length (filter (same_id j) free) ≡ cond (is_free (get_or (set r.stages i.0 s) j.0 Spent)) 1 0) i
+    (here ∙ ap (λ x. bit (is_free x)) (sym (get_or-set_same r.stages i.0 s Spent known)))
+    (λ j apart. others j apart ∙ once j ∙ ap (λ x. bit (is_free x)) (sym (get_or-set_other r.stages i.0 j.0 s Spent apart)))
+
 pub kept-moved : {lens : List ℕ} {all room : ℕ} {r : Requests} → IsKept lens all room r → {i : IrpId} {s : Stage} {free : List IrpId} → IsMove r i s free → (new : List ℕ) (more : ℕ)
     → ((f : FileId) → get_or new f.0 0 + cond (is_for f (stage_of r i)) 1 0 ≡ get_or lens f.0 0 + cond (is_for f s) 1 0)
     → more + cond (is_under_way (stage_of r i)) 1 0 ≡ all + cond (is_under_way s) 1 0
@@ -68,9 +77,7 @@ pub kept-moved : {lens : List ℕ} {all room : ℕ} {r : Requests} → IsKept le
     → IsKept new more room (record r { stages = set r.stages i.0 s; free = free })
 kept-moved {lens} {all} {room} {r} kept {i} {s} {free} move new more counts all_counts each = record {
   sound = record {
-    free_once = by_number (λ j. length (filter (same_id j) free) ≡ cond (is_free (get_or stages j.0 Spent)) 1 0) i
-        (move.free_here ∙ ap bit_free (sym here))
-        (λ j apart. move.free_else j apart ∙ kept.sound.free_once j ∙ ap bit_free (sym (there j apart)));
+    free_once = once-moved r kept.sound.free_once i s free move.known move.free_here move.free_else;
     due_waits = by_number (λ j. IsSome (due_of r j) → IsTrue (may_be_due (get_or stages j.0 Spent))) i
         (λ is. ap may_be_due here ∙ move.due is)
         (λ j apart is. ap may_be_due (there j apart) ∙ kept.sound.due_waits j is);
@@ -89,9 +96,6 @@ kept-moved {lens} {all} {room} {r} kept {i} {s} {free} move new more counts all_
     stages : List Stage
     stages = set r.stages i.0 s
 
-    bit_free : Stage → ℕ
-    bit_free x = cond (is_free x) 1 0
-
     here : get_or stages i.0 Spent ≡ s
     here = get_or-set_same r.stages i.0 s Spent move.known
 
@@ -107,10 +111,7 @@ kept-moved {lens} {all} {room} {r} kept {i} {s} {free} move new more counts all_
 -- a request under way isn't free
 pub not-free : (s : Stage) → is_under_way s ≡ true → is_free s ≡ false
 not-free Free way = absurd (true≢false (sym way))
-not-free (Listed f) way = refl
-not-free (Taken f named) way = refl
-not-free (Ending f why) way = refl
-not-free Spent way = refl
+not-free _ way = refl
 
 -- another stage of a request that stays under way
 pub kept-stage : {lens : List ℕ} {all room : ℕ} {r : Requests} → IsKept lens all room r → (i : IrpId) (s : Stage) → is_under_way (stage_of r i) ≡ true → file_of s ≡ file_of (stage_of r i) → (IsSome (due_of r i) → IsTrue (may_be_due s)) → IsKept lens all room (with_stage i s r)
@@ -129,36 +130,36 @@ kept-stage {lens} {all} {room} {r} kept i s way file due =
     refl
 
 -- what is free first: its stage is Free, and it stands nowhere else
-pub first-free : (r : Requests) (i : IrpId) (rest : List IrpId) → IsSound r → r.free ≡ i ∷ rest → (is_free (stage_of r i) ≡ true) × (length (filter (same_id i) rest) ≡ 0)
-first-free r i rest sound is =
+pub first-free : (r : Requests) → ((j : IrpId) → times_free r j ≡ cond (is_free (stage_of r j)) 1 0) → (i : IrpId) (rest : List IrpId) → r.free ≡ i ∷ rest → (is_free (stage_of r i) ≡ true) × (length (filter (same_id i) rest) ≡ 0)
+first-free r once i rest is =
     by_value (λ b. times_free r i ≡ cond b 1 0 → (b ≡ true) × (length (filter (same_id i) rest) ≡ 0)) (is_free (stage_of r i))
-    (λ m once. (refl, omega (arith, once, twice)))
-    (λ m once. absurd (omega (arith, once, twice)))
-    (sound.free_once i)
+    (λ m own. (refl, omega (arith, own, twice)))
+    (λ m own. absurd (omega (arith, own, twice)))
+    (once i)
   where
     twice : times_free r i ≡ length (filter (same_id i) rest) + 1
     twice = ap (λ xs. length (filter (same_id i) xs)) is ∙ count-cons (same_id i) i rest ∙ ap (λ b. length (filter (same_id i) rest) + cond b 1 0) (same_id-refl i)
 
-is-free : (s : Stage) → is_free s ≡ true → s ≡ Free
+pub is-free : (s : Stage) → is_free s ≡ true → s ≡ Free
 is-free Free way = refl
-is-free (Listed f) way = absurd (true≢false (sym way))
-is-free (Taken f named) way = absurd (true≢false (sym way))
-is-free (Ending f why) way = absurd (true≢false (sym way))
-is-free Spent way = absurd (true≢false (sym way))
+is-free _ way = absurd (true≢false (sym way))
+
+pub rest-else : (r : Requests) (i : IrpId) (rest : List IrpId) → r.free ≡ i ∷ rest → (j : IrpId) → (j.0 ≡ i.0 → ⊥) → length (filter (same_id j) rest) ≡ times_free r j
+rest-else r i rest is j apart = omega (arith, ap (λ xs. length (filter (same_id j) xs)) is, count-cons (same_id j) i rest, ap bit (other-id j i apart))
 
 pub first-known : {r : Requests} → IsSound r → (i : IrpId) (rest : List IrpId) → r.free ≡ i ∷ rest → i.0 < length r.stages
-first-known {r} sound i rest is = known-by is_free r.stages i refl (first-free r i rest sound is).0
+first-known {r} sound i rest is = known-by is_free r.stages i refl (first-free r sound.free_once i rest is).0
 
 pub kept-begun : {lens : List ℕ} {all room : ℕ} {r : Requests} → IsKept lens all room r → (i : IrpId) (f : FileId) (rest : List IrpId) → r.free ≡ i ∷ rest → f.0 < length lens
     → IsKept (set lens f.0 (get_or lens f.0 0 + 1)) (all + 1) room (record r { stages = set r.stages i.0 (Listed f); free = rest })
 kept-begun {lens} {all} {room} {r} kept i f rest is file =
-    let first = first-free r i rest kept.sound is in
+    let first = first-free r kept.sound.free_once i rest is in
     let was : stage_of r i ≡ Free = is-free (stage_of r i) first.0 in
     let move : IsMove r i (Listed f) rest = record {
       known = first-known kept.sound i rest is;
       due = λ is. refl;
       free_here = first.1;
-      free_else = λ j apart. sym (ap (λ xs. length (filter (same_id j) xs)) is ∙ count-cons (same_id j) i rest ∙ ap (λ b. length (filter (same_id j) rest) + cond b 1 0) (other-id j i apart) ∙ omega arith);
+      free_else = rest-else r i rest is;
       free_count = omega (arith, ap length is, ap bit first.0);
     } in
     kept-moved kept move (set lens f.0 (get_or lens f.0 0 + 1)) (all + 1)
@@ -183,11 +184,11 @@ counted-one {lens} {all} {room} {r} kept i f file = (known, some, omega (arith, 
     known = elim (cases_lt f.0 (length lens)) [ inl low ↦ low | inr past ↦ absurd (omega (arith, some, get_or_past lens f.0 0 past)) ]
 
 -- the free numbers, once one more is put back or spent
-free-here : (spent : Bool) (i : IrpId) (free : List IrpId) → length (filter (same_id i) free) ≡ 0 → length (filter (same_id i) (free_after spent i free)) ≡ cond (is_free (stage_after spent)) 1 0
+pub free-here : (spent : Bool) (i : IrpId) (free : List IrpId) → length (filter (same_id i) free) ≡ 0 → length (filter (same_id i) (free_after spent i free)) ≡ cond (is_free (stage_after spent)) 1 0
 free-here true i free none = none
 free-here false i free none = omega (arith, count-push (same_id i) free i, none, ap bit (same_id-refl i))
 
-free-else : (spent : Bool) (i j : IrpId) (free : List IrpId) → (j.0 ≡ i.0 → ⊥) → length (filter (same_id j) (free_after spent i free)) ≡ length (filter (same_id j) free)
+pub free-else : (spent : Bool) (i j : IrpId) (free : List IrpId) → (j.0 ≡ i.0 → ⊥) → length (filter (same_id j) (free_after spent i free)) ≡ length (filter (same_id j) free)
 free-else true i j free apart = refl
 free-else false i j free apart = omega (arith, count-push (same_id j) free i, ap bit (other-id j i apart))
 
@@ -199,7 +200,7 @@ over-for : (spent : Bool) (f : FileId) → is_for f (stage_after spent) ≡ fals
 over-for true f = refl
 over-for false f = refl
 
-over-at-all : (spent : Bool) → is_under_way (stage_after spent) ≡ false
+pub over-at-all : (spent : Bool) → is_under_way (stage_after spent) ≡ false
 over-at-all true = refl
 over-at-all false = refl
 
@@ -253,7 +254,7 @@ refusal-last {lens} {all} {room} {r} kept q f is known open_table open_file =
 -- the next number is known and free
 pub next-free : (r : Requests) (free : List IrpId) → IsSound r → r.free ≡ free → (IfSome (slice_get free 0) (λ i. i.0 < length r.stages)) × (IfSome (slice_get free 0) (λ i. stage_of r i ≡ Free))
 next-free r [] sound is = (tt, tt)
-next-free r (i ∷ rest) sound is = (first-known sound i rest is, is-free (stage_of r i) (first-free r i rest sound is).0)
+next-free r (i ∷ rest) sound is = (first-known sound i rest is, is-free (stage_of r i) (first-free r sound.free_once i rest is).0)
 
 -- the numbers below n, each once
 ids-out : (n : ℕ) (i : IrpId) → n ≤ i.0 → length (filter (same_id i) (ids_below n)) ≡ 0
@@ -271,13 +272,16 @@ length-ids : (n : ℕ) → length (ids_below n) ≡ n
 length-ids zero = refl
 length-ids (suc n) = omega (arith, length_push (ids_below n) (record { 0 = n }), length-ids n)
 
+pub fresh-once : (irps files : ℕ) (i : IrpId) → times_free (fresh irps files) i ≡ cond (is_free (stage_of (fresh irps files) i)) 1 0
+fresh-once irps files i = elim (cases_lt i.0 irps) [
+  | inl low ↦ ids-in irps i low ∙ ap (λ s. bit (is_free s)) (sym (get_or-replicate irps i.0 Free Spent low))
+  | inr past ↦ ids-out irps i past ∙ ap (λ s. bit (is_free s)) (sym (get_or_past (replicate irps Free) i.0 Spent (omega (arith, length-replicate irps Free))))
+]
+
 pub kept-fresh : (irps files room : ℕ) → IsTableSize irps files → irps ≤ room → IsKept (replicate files 0) 0 room (fresh irps files)
 kept-fresh irps files room size enough = record {
   sound = record {
-    free_once = λ i. elim (cases_lt i.0 irps) [
-      | inl low ↦ ids-in irps i low ∙ ap (λ s. bit (is_free s)) (sym (get_or-replicate irps i.0 Free Spent low))
-      | inr past ↦ ids-out irps i past ∙ ap (λ s. bit (is_free s)) (sym (get_or_past (replicate irps Free) i.0 Spent (omega (arith, length-replicate irps Free))))
-    ];
+    free_once = fresh-once irps files;
     due_waits = λ i is. absurd (true≢false (sym is ∙ ap is_some (copy-at irps i.0 None)));
     all_have_dues = length-replicate irps None ∙ sym (length-replicate irps Free);
     files_known = λ f past. count-copies (is_for f) irps Free refl;

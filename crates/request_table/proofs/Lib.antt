@@ -6,3 +6,5 @@ pub mod Counting
 pub mod Trees
 -- Requests and Parts: what holds of a table after each call
 pub mod Keeping
+-- Laws
+pub mod Finishing

@@ -3,3 +3,4 @@ pub mod Times
 pub mod Requests
 pub mod Refusals
 pub mod Parts
+pub mod Laws

@@ -7,7 +7,8 @@ use irp_core::IrpId;
 use std::alloc::{AllocError, Allocator};
 use std::marker::Model;
 
-/// The time that never comes.
+/// The time that never comes: each time at which a number is due is below it. Times are milliseconds of the
+/// caller's clock. Own rule.
 pub const NEVER: u64 = u64::MAX;
 
 /// When each number is due, in a tree: `times[leaves + n]` is the time of number n, and each node k from 1 to

@@ -3,6 +3,7 @@
 #![tactic(auto)]
 
 mod dues;
+pub mod laws;
 mod refusals;
 mod stage;
 mod table;

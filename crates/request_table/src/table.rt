@@ -18,9 +18,10 @@ use std::marker::Model;
 /// The most file objects of a table. This project's own limit.
 pub const MAX_FILES: u32 = 65_535;
 
-/// Which number is free, listed, taken, ending or spent, for which file object, and when it is due. Every
-/// call takes constant time, but that `expire` and `next_due`, and each call by which a number becomes due
-/// or stops being due, take the logarithm of the number of IRPs. Only `new` takes memory. Own rule.
+/// Which number is free, listed, taken, ending or spent, for which file object, and when it is due. A call
+/// takes constant time, except that `expire`, `next_due` and a call by which a number becomes due or stops
+/// being due take time in proportion to the logarithm of the number of IRPs, and `new` in proportion to the
+/// numbers of IRPs and file objects. Only `new` takes memory. Own rule.
 #[derive(Drop)]
 pub struct RequestTable<A: Allocator = Global> {
     stages: Vec<Stage, A>,
@@ -165,8 +166,8 @@ impl<A: Allocator> RequestTable<A> {
         self.free.front().copied()
     }
 
-    /// Begins a request for a file: the number that has been free longest becomes Listed, due at this time
-    /// or never, and is returned.
+    /// Begins a request for a file: the number that has been free longest becomes Listed, due at this time,
+    /// in milliseconds of the caller's clock, or never, and is returned.
     pub fn list(&mut self, file: FileId, due: Option<u64>) -> IrpId
         requires may_begin { refusal_to_begin self.old file ≡ None }
         requires time { ForSome due (λ time. time < NEVER) }
@@ -263,7 +264,7 @@ impl<A: Allocator> RequestTable<A> {
         Some(first.irp)
     }
 
-    /// The least time at which a number is due. None if none is due.
+    /// The least time at which a number is due. None if none is.
     pub fn next_due(&self) -> Option<u64>
         ensures some { IfSome result (IsNextDue self.now.dues) }
         ensures none { IfNone result (NoneIsDue self.now.dues) }
