@@ -1,7 +1,7 @@
 //! What a job costs through a queue of requests: in one thread beside the bare cycle of its queue,
-//! and beside a job that can be cancelled over std's `sync_channel` of as many places, also with one
-//! submitter and several workers. Each row is the median of seven turns, in each of which all of
-//! the row run.
+//! and beside a job that can be cancelled over std's `sync_channel` of as many places, also with
+//! one submitter and several workers. Each row is the median of seven turns, in each of which all
+//! of the row run.
 //!
 //! `cargo bench`, with `CSQ_LIBRARY` or a feature that links the library.
 use csq::{FinalStatus, Inserted, Irp, List, Peek, Place, Queue, Requests, Size};
@@ -91,8 +91,8 @@ fn requests(workers: u32) {
     assert_eq!(sum.into_inner(), JOBS * (JOBS - 1) / 2);
 }
 
-/// A job that can be cancelled until a worker has it, as one writes it over a channel: its canceller
-/// and the channel share it, and one of them claims it.
+/// A job that can be cancelled until a worker has it, as one writes it over a channel: its
+/// canceller and the channel share it, and one of them claims it.
 struct Job {
     claimed: AtomicBool,
     job: u64,

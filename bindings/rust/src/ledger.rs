@@ -31,11 +31,11 @@ pub(crate) enum Why {
 impl Why {
     fn raw(self) -> u32 {
         match self {
-            Why::Cancel => raw::WHY_CANCEL,
-            Why::Drain => raw::WHY_DRAIN,
-            Why::Cleanup => raw::WHY_CLEANUP,
-            Why::Close => raw::WHY_FREE,
-            Why::Due => raw::WHY_DUE,
+            Why::Cancel => raw::why::CANCEL,
+            Why::Drain => raw::why::DRAIN,
+            Why::Cleanup => raw::why::CLEANUP,
+            Why::Close => raw::why::FREE,
+            Why::Due => raw::why::DUE,
         }
     }
 }
@@ -249,7 +249,7 @@ impl Ledger {
         let (mut name, mut stage) = (RawIrp::default(), 0);
         // SAFETY: the handle is filled, and borrowed; the other pointers are valid.
         match unsafe { raw::csq_ledger_expire(&mut self.raw, now, &mut name, &mut stage) } {
-            raw::OK if stage == raw::STAGE_ENDING => Some(Due::Ending(Irp::of(name))),
+            raw::OK if stage == raw::stage::ENDING => Some(Due::Ending(Irp::of(name))),
             raw::OK => Some(Due::Taken(Irp::of(name))),
             _ => None,
         }
@@ -270,8 +270,8 @@ impl Ledger {
         let code = unsafe { raw::csq_ledger_look(&self.raw, irp.raw(), &mut look) };
         debug_assert_eq!(code, raw::OK);
         match look.why {
-            raw::WHY_CANCEL => Some(Why::Cancel),
-            raw::WHY_DUE => Some(Why::Due),
+            raw::why::CANCEL => Some(Why::Cancel),
+            raw::why::DUE => Some(Why::Due),
             _ => None,
         }
     }

@@ -90,14 +90,18 @@ pub(crate) struct RawIrp {
 pub(crate) const NEVER: u64 = u64::MAX;
 
 /// Why a request ends without a worker, or isn't waited for (`enum csq_why`).
-pub(crate) const WHY_CANCEL: u32 = 1;
-pub(crate) const WHY_DRAIN: u32 = 2;
-pub(crate) const WHY_CLEANUP: u32 = 3;
-pub(crate) const WHY_FREE: u32 = 4;
-pub(crate) const WHY_DUE: u32 = 5;
+pub(crate) mod why {
+    pub(crate) const CANCEL: u32 = 1;
+    pub(crate) const DRAIN: u32 = 2;
+    pub(crate) const CLEANUP: u32 = 3;
+    pub(crate) const FREE: u32 = 4;
+    pub(crate) const DUE: u32 = 5;
+}
 
 /// Where a request is (`enum csq_stage`).
-pub(crate) const STAGE_ENDING: u32 = 3;
+pub(crate) mod stage {
+    pub(crate) const ENDING: u32 = 3;
+}
 
 #[repr(C)]
 #[derive(Clone, Copy, Default)]
@@ -253,11 +257,15 @@ mod tests {
     // A pass has a share of its queue in this crate, so no call meets this code but here.
     const OTHER_QUEUE: u32 = 26;
 
-    // The C header, which stands in the repository and not in the package: `tests/documents.rs`,
+    // A C header, which stands in the repository and not in the package: `tests/documents.rs`,
     // which isn't in the package either, asks for it.
+    fn header_named(name: &str) -> Option<String> {
+        let headers = concat!(env!("CARGO_MANIFEST_DIR"), "/../../include/");
+        std::fs::read_to_string(headers.to_owned() + name).ok()
+    }
+
     fn header() -> Option<String> {
-        let header = concat!(env!("CARGO_MANIFEST_DIR"), "/../../include/csq.h");
-        std::fs::read_to_string(header).ok()
+        header_named("csq.h")
     }
 
     // The number that the header gives a code.
@@ -266,7 +274,25 @@ mod tests {
             .lines()
             .map(str::trim)
             .find_map(|line| line.strip_prefix(name)?.strip_prefix(" = "))?;
-        line.trim_end_matches(',').parse().ok()
+        let number = line.split(',').next()?.split(' ').next()?;
+        number.parse().ok()
+    }
+
+    #[test]
+    fn the_whys_and_stages_are_those_of_the_ledgers_header() {
+        let numbers = [
+            ("CSQ_WHY_CANCEL", why::CANCEL),
+            ("CSQ_WHY_DRAIN", why::DRAIN),
+            ("CSQ_WHY_CLEANUP", why::CLEANUP),
+            ("CSQ_WHY_FREE", why::FREE),
+            ("CSQ_WHY_DUE", why::DUE),
+            ("CSQ_STAGE_ENDING", stage::ENDING),
+        ];
+        if let Some(header) = header_named("csq_ledger.h") {
+            for (name, number) in numbers {
+                assert_eq!(in_header(&header, name), Some(number), "{name}");
+            }
+        }
     }
 
     #[test]

@@ -1,8 +1,8 @@
 //! A server of many connections, which come and go: one thread reads what they send, workers serve
-//! their requests in batches, and one thread ends those that are due. A request that finds its device
-//! busy is put back. Once a connection has gone its requests are drained, and the next one has its
-//! number. Channels stand for the network; clients in the same program (`clients.rs`) keep the
-//! server busy, and hang up early now and then. In the end every request is accounted for.
+//! their requests in batches, and one thread ends those that are due. A request that finds its
+//! device busy is put back. Once a connection has gone its requests are drained, and the next one
+//! has its number. Channels stand for the network; clients in the same program (`clients.rs`) keep
+//! the server busy, and hang up early now and then. In the end every request is accounted for.
 //!
 //! `cargo run --example server -- 4000 16 2 4 100`: the numbers are of connections at once,
 //! requests of each, rounds, workers, and milliseconds until a request is due.
