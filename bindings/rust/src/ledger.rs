@@ -44,7 +44,7 @@ impl Why {
 pub(crate) enum Cancelled {
     /// It was listed, and is ending: its canceller completes it.
     Ending,
-    /// It is taken, and whoever has it learns of the cancel.
+    /// It is taken, and the worker that has it learns of the cancel.
     Taken,
     /// It isn't under way.
     Stale,
@@ -54,7 +54,7 @@ pub(crate) enum Cancelled {
 pub(crate) enum Due {
     /// It was listed, and is ending: its caller completes it.
     Ending(Irp),
-    /// It is taken, and whoever has it learns that it was due.
+    /// It is taken, and the worker that has it learns that it was due.
     Taken(Irp),
 }
 

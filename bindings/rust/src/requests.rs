@@ -1,4 +1,4 @@
-//! A queue of values: a submit puts one in, and whoever gets the request has it.
+//! A queue of values: a submit puts one in, and who gets the request has it.
 
 #[cfg(feature = "async")]
 mod futures;
@@ -71,9 +71,9 @@ use std::sync::Arc;
 /// is shut down ([`Requests::shutdown`]) or dropped. A submit waits for room
 /// ([`RequestPass::submit_timeout`]), and ends or takes of requests wake those who wait for it.
 ///
-/// A request may have a deadline ([`RequestPass::submit_until`]). When it is over, the request is
-/// cancelled by whoever looks for it: an event loop ([`OwnedPass::cancel_due`]) or a thread
-/// ([`OwnedPass::recv_due`]).
+/// A request may have a deadline ([`RequestPass::submit_until`]). When it is over, the next look for
+/// those that are due cancels the request: by an event loop ([`OwnedPass::cancel_due`]) or by a
+/// thread ([`OwnedPass::recv_due`]).
 ///
 /// Passes borrow nothing, so a queue may be dropped while threads wait through them. Then all are
 /// woken, and from then on nobody waits: what is listed is still taken, and where nothing is, a

@@ -38,7 +38,7 @@ times_free r i = length (filter (same_id i) r.free)
 
 -- what is true of every table
 pub record IsSound (r : Requests) : Type 0 where
-  -- a number stands among the free ones once if its stage is Free, and else never
+  -- a number stands among the free ones once if its stage is Free, and otherwise never
   pub free_once : (i : IrpId) → times_free r i ≡ (if is_free (stage_of r i) then 1 else 0)
   pub due_waits : (i : IrpId) → IsSome (due_of r i) → IsTrue (may_be_due (stage_of r i))
   pub all_have_dues : length r.dues ≡ length r.stages
