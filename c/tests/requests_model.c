@@ -101,6 +101,8 @@ static void call_drain(struct model *it) {
                                                : CSQ_OK);
 }
 
+static unsigned long starts;
+
 static void call_start(struct model *it) {
     const uint32_t file = draw_file(it), is_cleanup = one_in(8);
     struct drain *drain = &it->drains[draw(DRAINS)];
@@ -113,7 +115,7 @@ static void call_start(struct model *it) {
     is_known = close_for(it, file, is_cleanup);
     ending.word = one_in(2) ? &ending : NULL;
     drain->quiet = (struct csq_quiet){ .quiet = is_quiet, .context = drain, .word = ending.word };
-    drain->began = calls_made;
+    drain->began = ++starts;
     it->ending = &ending;
     if (is_known) {
         end_at_once(it);
@@ -127,7 +129,7 @@ static void call_start(struct model *it) {
     }
     code_is(code, want);
     drain->is_on = code == CSQ_HOLDING;
-    drain->began = drain->is_on ? calls_made : 0;
+    drain->began = drain->is_on ? ++starts : 0; /* one of an event inside has come before */
     number_is("the file object of a drain", !drain->is_on || drain->quiet.file == file, 1);
 }
 

@@ -42,7 +42,7 @@ struct ending {
 struct drain {
     struct csq_quiet quiet;
     uint32_t is_on, is_over;
-    unsigned long began; /* the call with this number */
+    unsigned long began; /* the start with this number */
 };
 
 /* An eventfd, and whether it is readable. */

@@ -161,6 +161,13 @@ static void a_time_ends_so_many_milliseconds_later(void) {
     }
 }
 
+/* The end of a wait is a time: less than a second of nanoseconds. */
+static void the_end_of_a_wait_is_a_time(void) {
+    for (uint32_t milliseconds = 1; milliseconds < 3000; milliseconds++) {
+        CHECK(requests_limit_of(milliseconds).end.tv_nsec < 1000000000);
+    }
+}
+
 /* A thread that waits looks at the clock once, so that no wake gives it more time. */
 static void a_limit_is_from_the_call_on(uint32_t list) {
     struct csq_requests *requests = made(2, list, NULL);
@@ -204,6 +211,7 @@ int main(void) {
     RUN_BOTH(a_queue_that_is_refused_something_keeps_nothing);
     RUN_BOTH(no_other_call_takes_anything);
     RUN(a_time_ends_so_many_milliseconds_later);
+    RUN(the_end_of_a_wait_is_a_time);
     RUN_BOTH(a_limit_is_from_the_call_on);
     return DONE();
 }

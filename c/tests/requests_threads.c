@@ -190,13 +190,6 @@ static void a_drain_waits_after_a_close_too(uint32_t list) {
     IS(csq_requests_free(&requests), CSQ_OK);
 }
 
-/* The end of a wait is a time: less than a second of nanoseconds, whatever the clock says now. */
-static void the_end_of_a_wait_is_a_time(void) {
-    for (uint32_t milliseconds = 1; milliseconds < 3000; milliseconds++) {
-        CHECK(requests_limit_of(milliseconds).end.tv_nsec < 1000000000);
-    }
-}
-
 /* Two requests are taken: one is put back and one completed, in this order or in the other. The
  * drain is of their file object, or of any. */
 static void drain_what_is_taken(uint32_t list, int put_back_first, uint32_t file) {
@@ -383,9 +376,7 @@ static atomic_ulong served, cancelled, drained, faults;
 /* A value, with its own name in it, which whoever gets the value finds. */
 static struct value { struct csq_irp name; unsigned long at; } values[SUBMITTERS * MOST];
 
-static void fault_unless(int holds) {
-    faults += !holds;
-}
+static void fault_unless(int holds) { faults += !holds; }
 
 static void comes_out(struct csq_irp name, const struct value *value, atomic_ulong *by) {
     fault_unless(value->name.irp == name.irp && value->name.life == name.life);
@@ -500,7 +491,6 @@ int main(int count, char **words) {
     RUN_BOTH(a_drain_waits_for_what_is_taken_and_takes_what_is_put_back);
     RUN_BOTH(a_drain_waits_for_what_a_cancel_has_named);
     RUN_BOTH(a_drain_waits_after_a_close_too);
-    RUN(the_end_of_a_wait_is_a_time);
     RUN_BOTH(who_comes_late_spoils_nothing);
     RUN_BOTH(each_of_several_drains_is_woken);
     RUN_BOTH(who_runs_out_of_time_looks_once_more);
