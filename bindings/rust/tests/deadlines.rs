@@ -1,10 +1,6 @@
-//! Deadlines, room and batches in threads, whose waits end.
+//! Deadlines and room in threads, whose waits end.
 use csq::*;
-use std::future::Future;
-use std::pin::Pin;
-use std::sync::atomic::{AtomicBool, AtomicU32, Ordering::SeqCst};
-use std::sync::Arc;
-use std::task::{Context, Wake, Waker};
+use std::sync::atomic::{AtomicU32, Ordering::SeqCst};
 use std::thread;
 use std::time::{Duration, Instant};
 
@@ -17,37 +13,6 @@ fn until(what: impl Fn() -> bool) {
         assert!(start.elapsed() < Duration::from_secs(60), "it doesn't come");
         thread::yield_now();
     }
-}
-
-#[derive(Default)]
-struct Woken(AtomicBool);
-
-impl Wake for Woken {
-    fn wake(self: Arc<Self>) {
-        self.0.store(true, SeqCst);
-    }
-}
-
-#[test]
-fn the_holder_of_a_request_learns_that_it_is_due() {
-    let queue = Requests::new(&Size::new(2, 1, 1)).unwrap();
-    let pass = queue.owned_pass().unwrap();
-    let due = Instant::now();
-    pass.submit_until(1, 0, Place::Back, due).unwrap();
-    let request = pass.recv(Peek::Any).unwrap();
-    let woken = Arc::new(Woken::default());
-    let waker = Waker::from(Arc::clone(&woken));
-    let mut cancelled = request.cancelled();
-    let mut poll = || Pin::new(&mut cancelled).poll(&mut Context::from_waker(&waker));
-    assert!(poll().is_pending());
-    let later = due + Duration::from_millis(1);
-    assert_eq!(pass.cancel_due(later), (Vec::new(), None));
-    assert!(woken.0.load(SeqCst) && poll().is_ready());
-    assert_eq!(request.cancelled_by(), Some(CancelledBy::Deadline));
-    assert_eq!(
-        request.put_back(Place::Back).unwrap(),
-        PutBack::Cancelled(1)
-    );
 }
 
 /// What `recv_due` hands over until it returns none.
@@ -75,34 +40,6 @@ fn a_clock_looks_again_if_an_earlier_deadline_comes() {
     assert_eq!(pass.cancel(far), Ok(1));
     until(|| clock.is_finished());
     assert_eq!(clock.join().unwrap(), [2]);
-}
-
-#[test]
-fn a_batch_leaves_their_share_to_those_who_wait() {
-    let queue = Requests::new(&Size::new(8, 1, 1)).unwrap();
-    let pass = queue.owned_pass().unwrap();
-    let waker = Waker::from(Arc::<Woken>::default());
-    let mut context = Context::from_waker(&waker);
-    let mut sleepers = [(); 4].map(|()| pass.recv_async(Peek::Any));
-    for sleeper in &mut sleepers {
-        assert!(Pin::new(sleeper).poll(&mut context).is_pending());
-    }
-    for value in 0..3 {
-        pass.submit(value, 0, Place::Back).unwrap();
-    }
-    // Three were woken, and one sleeps: of the two after the first one is left to it.
-    let batch = pass.recv_many(Peek::Any, 9).unwrap();
-    assert_eq!(OwnedRequest::complete_all(batch), [0, 1]);
-    // Those who wait for something else have no share.
-    drop(sleepers);
-    let mut other = pass.recv_async(Peek::File(0));
-    drop(pass.drain(Peek::Any));
-    assert!(Pin::new(&mut other).poll(&mut context).is_pending());
-    for value in 0..4 {
-        pass.submit(value, 0, Place::Back).unwrap();
-    }
-    assert_eq!(pass.recv_many(Peek::Any, 3).unwrap().len(), 3);
-    assert_eq!(pass.recv_many(Peek::Any, 3).unwrap().len(), 1);
 }
 
 #[test]

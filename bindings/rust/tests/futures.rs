@@ -7,7 +7,7 @@ use std::sync::atomic::{AtomicU32, Ordering::SeqCst};
 use std::sync::Arc;
 use std::task::{Context, Poll, Wake, Waker};
 use std::thread::{self, Thread};
-use std::time::Duration;
+use std::time::{Duration, Instant};
 
 /// How often a task was woken.
 #[derive(Default)]
@@ -306,4 +306,47 @@ fn the_future_of_a_completed_request_does_not_end_by_the_next_ones_cancel() {
     assert_eq!(pass.cancel(next), Err(Missed::Taken));
     assert!(cancelled.poll().is_pending());
     again.complete();
+}
+
+#[test]
+fn the_holder_of_a_request_learns_that_it_is_due() {
+    let (_queue, pass) = queue_of(2);
+    let due = Instant::now();
+    pass.submit_until(1, 0, Place::Back, due).unwrap();
+    let request = pass.recv(Peek::Any).unwrap();
+    let mut cancelled = Task::of(request.cancelled());
+    assert!(cancelled.poll().is_pending());
+    let later = due + Duration::from_millis(1);
+    assert_eq!(pass.cancel_due(later), (Vec::new(), None));
+    assert!(cancelled.wakes() == 1 && cancelled.poll().is_ready());
+    assert_eq!(request.cancelled_by(), Some(CancelledBy::Deadline));
+    assert_eq!(
+        request.put_back(Place::Back).unwrap(),
+        PutBack::Cancelled(1)
+    );
+}
+
+#[test]
+fn a_batch_leaves_their_share_to_those_who_wait() {
+    let (_queue, pass) = queue_of(8);
+    let mut sleepers = [(); 4].map(|()| Task::of(pass.recv_async(Peek::Any)));
+    for sleeper in &mut sleepers {
+        assert!(sleeper.poll().is_pending());
+    }
+    for value in 0..3 {
+        pass.submit(value, 0, Place::Back).unwrap();
+    }
+    // Three were woken, and one sleeps: of the two after the first one is left to it.
+    let batch = pass.recv_many(Peek::Any, 9).unwrap();
+    assert_eq!(OwnedRequest::complete_all(batch), [0, 1]);
+    // Those who wait for something else have no share.
+    drop(sleepers);
+    drop(pass.drain(Peek::Any));
+    let mut other = Task::of(pass.recv_async(Peek::File(0)));
+    assert!(other.poll().is_pending());
+    for value in 0..4 {
+        pass.submit(value, 0, Place::Back).unwrap();
+    }
+    assert_eq!(pass.recv_many(Peek::Any, 3).unwrap().len(), 3);
+    assert_eq!(pass.recv_many(Peek::Any, 3).unwrap().len(), 1);
 }
