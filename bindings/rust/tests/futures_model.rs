@@ -1,5 +1,6 @@
 //! Random calls and futures of queues of requests in one thread: once all that were woken have been
 //! polled, no future waits for what is there; and each value comes out once.
+#![cfg(feature = "async")]
 use csq::*;
 use std::future::Future;
 use std::pin::Pin;

@@ -1,4 +1,5 @@
 //! The examples of servers, under load: each request is accounted for, and finds a number.
+#[cfg(feature = "async")]
 #[allow(dead_code)]
 #[path = "../examples/futures.rs"]
 mod futures;
@@ -6,6 +7,7 @@ mod futures;
 #[path = "../examples/server/main.rs"]
 mod server;
 
+#[cfg(feature = "async")]
 #[test]
 fn each_request_of_a_server_of_tasks_is_accounted_for() {
     futures::run().unwrap();

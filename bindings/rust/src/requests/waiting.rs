@@ -171,6 +171,7 @@ impl Waiting {
     }
 
     /// Wakes the next that waits for a request of this file object, or for any.
+    #[cfg(feature = "async")]
     pub(crate) fn pass_request_on(&mut self, file: Option<u32>) {
         self.woken.extend(self.listed.take_first(file));
     }
