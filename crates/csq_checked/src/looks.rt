@@ -1,13 +1,15 @@
 //! What a queue shows without a pass.
-ghost use Rattle.std.specs.Prelude.{◌≡◌, IsTrue};
+ghost use Rattle.std.specs.Prelude.{◌≡◌, ◌<◌, ◌↔◌, IsTrue, IsSome, IfSome};
 ghost use Rattle.csq_list.specs.Searches.{is_distinct};
 ghost use Rattle.csq_queue.specs.Looks.{PeeksNext, listed_count, listed_for};
+ghost use Rattle.csq_queue.specs.Named.{named};
+ghost use Rattle.csq_checked.specs.Calls.{IsPresentIn};
 ghost use Rattle.csq_checked.specs.Passes.{listed};
 
 use crate::queue::CheckedQueue;
 use csq_list::Peek;
 use csq_queue::NotListed;
-use irp_core::{FileId, IrpId, IrpLife};
+use irp_core::{FileId, IrpId, IrpLife, Life};
 
 impl CheckedQueue {
     /// How many IRPs are listed, each once, as `OpenQueue::len` counts them.
@@ -33,5 +35,12 @@ impl CheckedQueue {
         ensures call { PeeksNext after peek result self.now.queue }
     {
         self.queue.peek_next(after, peek)
+    }
+    /// The present life of an IRP, as `OpenQueue::life` returns it. None if there is no such IRP.
+    pub fn life(&self, irp: IrpId) -> Option<Life>
+        ensures known { IsSome result ↔ (irp.0 < self.now.queue.limits.irps) }
+        ensures present { IfSome result (λ life. IsPresentIn self.now.queue (named irp life)) }
+    {
+        self.queue.life(irp)
     }
 }
