@@ -1,0 +1,4 @@
+pub mod Imports
+pub mod Whole
+pub mod Spots
+pub mod Taking
