@@ -12,7 +12,7 @@ pub use Rattle.csq_words.specs.declared.views.Event.{Event}
 pub use Rattle.csq_words.specs.declared.views.HistoryEntry.{HistoryEntry}
 pub use Rattle.csq_words.specs.declared.views.PassRecord.{PassRecord}
 pub use Rattle.irp_core.proofs.Growing.{run_last, run_less, run_none}
-pub use Rattle.irp_core.proofs.Names.{named, other_irp, same_id-eq, same_id-refl, same_irp-eq, same_irp-refl}
+pub use Rattle.irp_core.proofs.Names.{named, other_irp, same_id-refl, same_irp-eq, same_irp-refl}
 pub use Rattle.irp_core.proofs.Own.{holds_in-own, inside_of-own, owes_in-own, own-mine, own-other}
 pub use Rattle.irp_core.proofs.Owning.{listed_owed, watched}
 pub use Rattle.irp_core.specs.Inside.{inside}

@@ -5,9 +5,9 @@ use Rattle.csq_words.specs.Queue.{has_file, plain}
 use Rattle.csq_queue.specs.Opens.{IsQueueOn, after_call}
 use Rattle.csq_words.specs.Seats.{WordsState}
 use Rattle.csq_checked.specs.Calls.{IsAfter}
-use Rattle.csq_checked.specs.Passes.{CheckedPassState, CheckedState}
+use Rattle.csq_checked.specs.Passes.{CheckedPassState, CheckedState, IsPassIn}
 use Rattle.csq_ledger.specs.Singles.{limits_of, list_of, queue_in}
-use Rattle.csq_ledger.proofs.Whole.{still_whole}
+use Rattle.csq_ledger.proofs.Whole.{Sole, still_whole}
 
 -- spots whose fields are the same
 pub spot_eq : (a b : Spot) → a.is_listed ≡ b.is_listed → a.is_held ≡ b.is_held → a.is_removed ≡ b.is_removed → a.is_used ≡ b.is_used → a.is_flagged ≡ b.is_flagged → a.life ≡ b.life → a.file ≡ b.file → a ≡ b
@@ -38,6 +38,23 @@ same_spot {Of} {u} {E} {u'} {E'} same m of_it =
     (ap (flagged E') now ∙ same.flags (present_in u m) of_it)
     (same.lives m of_it) (same.files m of_it)
 
+-- after a call of the queue that added these events, by the one pass
+module _ (q : CheckedState) (p : CheckedPassState) (q' : CheckedState) (p' : CheckedPassState) (after : IsAfter q p q' p') where
+  pub queue_after : (u' : QueueState) → end_of q.queue.limits.first p'.pass.seen ≡ u' → queue_in (record { queue = q'; pass = p' }) ≡ u'
+  queue_after u' e = ap (λ (x : CheckedState). queue_in (record { queue = x; pass = p' })) after.seen ∙ e
+
+  pub limits_after : q'.queue.limits ≡ q.queue.limits
+  limits_after = ap (λ (x : CheckedState). x.queue.limits) after.seen
+
+  pub single_after : IsPassIn q.queue p → q.queue.limits.passes ≡ 1 → p.pass.pass ≡ Sole → (events : List Event) → AddsEvents q.queue.limits q.queue.queue.history p.pass p'.pass events → ((i : IrpLife) → owes_in p'.pass.steps i ≡ false) → IsSingle q' p'
+  single_after on one number events adds owes_none = subst (λ (x : CheckedState). IsSingle x p') (sym after.seen) (record {
+    on = subst (λ (words : WordsState). IsQueueOn words (after_call p'.pass q.queue)) (sym after.words) (record { table = on.table; size = on.size });
+    one = one;
+    number = adds.pass ∙ number;
+    seen = refl;
+    run = still_whole q.queue.limits one q.queue.queue.history p.pass p'.pass number events adds owes_none;
+  })
+
 module _ (q : CheckedState) (p : CheckedPassState) (q' : CheckedState) (p' : CheckedPassState) (single : IsSingle q p) where
   abbrev pub Old : Single
   Old = record { queue = q; pass = p }
@@ -48,22 +65,15 @@ module _ (q : CheckedState) (p : CheckedPassState) (q' : CheckedState) (p' : Che
   abbrev pub history : List HistoryEntry
   history = q.queue.queue.history
 
-  -- after a call of the queue that added these events
   module _ (after : IsAfter q p q' p') where
     pub queue_now : (u' : QueueState) → end_of q.queue.limits.first p'.pass.seen ≡ u' → queue_in New ≡ u'
-    queue_now u' e = ap (λ (x : CheckedState). queue_in (record { queue = x; pass = p' })) after.seen ∙ e
+    queue_now = queue_after q p q' p' after
 
     pub limits_now : limits_of New ≡ limits_of Old
-    limits_now = ap (λ (x : CheckedState). x.queue.limits) after.seen
+    limits_now = limits_after q p q' p' after
 
     pub single_now : (events : List Event) → AddsEvents q.queue.limits history p.pass p'.pass events → ((i : IrpLife) → owes_in p'.pass.steps i ≡ false) → IsSingle q' p'
-    single_now events adds owes_none = subst (λ (x : CheckedState). IsSingle x p') (sym after.seen) (record {
-      on = subst (λ (words : WordsState). IsQueueOn words (after_call p'.pass q.queue)) (sym after.words) (record { table = single.on.table; size = single.on.size });
-      one = single.one;
-      number = adds.pass ∙ single.number;
-      seen = refl;
-      run = still_whole q.queue.limits single.one history p.pass p'.pass single.number events adds owes_none;
-    })
+    single_now = single_after q p q' p' after single.on single.one single.number
 
   -- what is so of the others, and of all
   module _ (limits : limits_of New ≡ limits_of Old) (u' : QueueState) (now : queue_in New ≡ u') (closed : (f : FileId) → has_file u'.closed f ≡ has_file (queue_in Old).closed f) where

@@ -18,7 +18,7 @@ use Rattle.csq_queue.specs.Searches.{marked}
 use Rattle.csq_queue.proofs.Giving.{GivesOut, remove_next_gives}
 use Rattle.csq_checked.specs.Calls.{MakesCall}
 use Rattle.csq_checked.specs.Passes.{CheckedPassState, CheckedState}
-use Rattle.csq_ledger.specs.Moves.{Takes}
+use Rattle.csq_ledger.specs.Moves.{Takes, TakesFirst}
 use Rattle.csq_ledger.specs.Singles.{IsSameIn, limits_of, queue_in, spot_of}
 use Rattle.csq_ledger.proofs.Whole.{entry_present, entry_unflagged, still_whole, unmarked}
 use Rattle.csq_ledger.proofs.Spots.{Old, New, queue_now, limits_now, single_now, leaves, all_same, spot_eq, unlike}
@@ -179,3 +179,7 @@ module _ (q : CheckedState) (p : CheckedPassState) (q' : CheckedState) (p' : Che
           files = λ m _. refl;
         });
       }
+
+pub take_moves : (q : CheckedState) (p : CheckedPassState) (q' : CheckedState) (p' : CheckedPassState) (single : IsSingle q p) (peek : Peek) (got : Option IrpLife) → MakesCall (RemovesNext peek got) q p q' p' → TakesFirst peek got (Old q p q' p' single) (New q p q' p' single)
+take_moves q p q' p' single peek None call = record { first = take_first q p q' p' single peek None call; taken = tt; none = λ _. take_none q p q' p' single peek call }
+take_moves q p q' p' single peek (Some i) call = record { first = take_first q p q' p' single peek (Some i) call; taken = take_some q p q' p' single peek i call; none = λ e. absurd cc }

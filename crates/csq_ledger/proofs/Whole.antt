@@ -13,7 +13,7 @@ abbrev pub Sole : PassId
 Sole = pass_numbered 1
 
 -- each step is of the pass 1
-own_all : (size : Size) → size.passes ≡ 1 → (E : List Made) → IsRun size E → own Sole E ≡ E
+pub own_all : (size : Size) → size.passes ≡ 1 → (E : List Made) → IsRun size E → own Sole E ≡ E
 own_all size one [] r = refl
 own_all size one (m ∷ E) r =
     let known = r.known.0 in
@@ -100,8 +100,8 @@ module _ (l : Limits) (one : l.passes ≡ 1) (h : List HistoryEntry) (E : List M
 
 -- a call of the queue leaves a whole run
 module _ (l : Limits) (one : l.passes ≡ 1) (h : List HistoryEntry) (p p' : PassRecord) (first : p.pass ≡ Sole) (events : List Event) (adds : AddsEvents l h p p' events) where
-  steps_are : p'.steps ≡ steps_in p'.trace
-  steps_are =
+  pub whole_steps : p'.steps ≡ steps_in p'.trace
+  whole_steps =
       let is_run = adds.sees.agrees.history_is.is_run in
       let mine : p'.pass ≡ Sole = adds.pass ∙ first in
       adds.sees.agrees.pass_is.steps_is ∙ (ap (λ (q : PassId). own q (steps_in p'.trace)) mine ∙ own_all (queue_size l) one (steps_in p'.trace) is_run)
@@ -109,7 +109,7 @@ module _ (l : Limits) (one : l.passes ≡ 1) (h : List HistoryEntry) (p p' : Pas
   pub still_whole : ((i : IrpLife) → owes_in p'.steps i ≡ false) → IsWholeRun l p'.seen p'.steps
   still_whole owes_none =
       let his = adds.sees.agrees.history_is in
-      subst (λ (E : List Made). ((i : IrpLife) → owes_in E i ≡ false) → inside_of E ≡ Nothing → IsWholeRun l p'.seen E) (sym steps_are) (λ owes out. record {
+      subst (λ (E : List Made). ((i : IrpLife) → owes_in E i ≡ false) → inside_of E ≡ Nothing → IsWholeRun l p'.seen E) (sym whole_steps) (λ owes out. record {
         is_run = his.is_run;
         outside = out;
         owes_none = owes;

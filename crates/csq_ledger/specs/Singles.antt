@@ -1,5 +1,5 @@
 -- A queue with its one pass, and what is so of each of its IRPs in the present life.
-use Rattle.std.specs.Prelude.{◌≡◌, ◌≢◌, ℕ, false, Bool, List}
+use Rattle.std.specs.Prelude.{◌≡◌, ◌≢◌, ℕ, ◌<◌, Bool, true, false, List}
 use Rattle.irp_core.specs.declared.ids.{FileId.{FileId}, IrpId.{IrpId}, IrpLife.{IrpLife}}
 use Rattle.irp_core.specs.declared.inside.Inside.TheVariants.{Nothing}
 use Rattle.irp_core.specs.declared.step.Made.{Made}
@@ -7,6 +7,7 @@ use Rattle.irp_core.specs.Lives.{present_life}
 use Rattle.irp_core.specs.Own.{holds_in, inside_of, owes_in, removed_in}
 use Rattle.irp_core.specs.Owners.{listed as is_listed_by}
 use Rattle.irp_core.specs.Runs.{IsRun}
+use Rattle.irp_core.specs.Steps.{number}
 use Rattle.irp_core.specs.Words.{flagged, was_armed}
 use Rattle.csq_list.specs.declared.entry.Entry.{Entry}
 use Rattle.csq_words.specs.declared.views.HistoryEntry.{HistoryEntry}
@@ -99,3 +100,13 @@ pub record IsSameIn (s s' : Single) : Type 0 where
   pub closed : (f : FileId) → is_closed s' f ≡ is_closed s f
   pub limits : limits_of s' ≡ limits_of s
   pub list : list_of s' ≡ list_of s
+
+-- i is the present life of an IRP that there is
+pub record IsKnown (i : IrpLife) (s : Single) : Type 0 where
+  pub in_range : number i < (limits_of s).irps
+  pub is_present : i ≡ present s i.irp
+
+-- the pass holds i, an IRP that there is
+pub record HoldsKnown (i : IrpLife) (p : CheckedPassState) : Type 0 where
+  pub in_range : number i < p.words.size.irps
+  pub held : holds_in p.pass.steps i ≡ true

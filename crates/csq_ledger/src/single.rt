@@ -1,18 +1,22 @@
-//! A queue with its one pass.
-ghost use Rattle.std.specs.Prelude.{◌≡◌, None, IfSome, is_none, true};
-ghost use Rattle.csq_queue.specs.Looks.{next_listed};
-ghost use Rattle.csq_ledger.specs.Singles.{IsSameIn};
-ghost use Rattle.csq_ledger.specs.Moves.{Takes};
+//! A queue with its one pass: what its calls make of one IRP.
+ghost use Rattle.std.specs.Prelude.{◌≡◌, true, false, OnOk, OnErr};
+ghost use Rattle.std.specs.Result.{result_err};
+ghost use Rattle.csq_queue.specs.Calls.{CompletesOne};
+ghost use Rattle.csq_checked.specs.Calls.{MakesOwnCall};
+ghost use Rattle.csq_checked.specs.Uses.{refusal_of};
+ghost use Rattle.csq_ledger.specs.Moves.{Closes, Finishes, Flags, Inserts, PutsBack, TakesFirst, TakesOut};
+ghost use Rattle.csq_ledger.specs.Singles.{HoldsKnown, IsKnown, spot};
 
-use csq_checked::{CheckedPass, CheckedQueue};
-use csq_list::Peek;
-use irp_core::IrpLife;
+use csq_checked::{CheckedPass, CheckedQueue, CompleteRefused, PutBackRefused};
+use csq_list::{InsertStatus, Peek, Place, UnknownFile};
+use csq_queue::{InsertAnswer, OpenInserted};
+use irp_core::{FileId, IrpId, IrpLife, NtStatus};
 use std::marker::Model;
 
 /// A queue and the one pass that it has. A contract sees both.
 #[derive(Drop)]
 pub(crate) struct SinglePassQueue {
-    queue: CheckedQueue,
+    pub(crate) queue: CheckedQueue,
     pass: CheckedPass,
 }
 
@@ -27,12 +31,108 @@ impl Model for SinglePassQueue {
 }
 
 impl SinglePassQueue {
+    /// Lists an IRP that isn't flagged for a file object, last or first, and returns its name, or the first
+    /// cause why not.
+    pub(crate) fn insert(
+        &mut self,
+        irp: IrpId,
+        file: FileId,
+        place: Place,
+    ) -> Result<IrpLife, InsertStatus>
+        requires unflagged { (spot self.old irp).is_flagged ≡ false }
+        ensures { Inserts irp file place result self.old self.new }
+    {
+        match self.queue.insert(&mut self.pass, irp, file, place)? {
+            InsertAnswer::Pending(name) => Ok(name),
+            // An insert finds a flag, and this one isn't set.
+            InsertAnswer::Cancelled(_) => unreachable!(),
+        }
+    }
+
     /// Takes the first listed IRP that matches, if there is one. The pass holds it then.
     pub(crate) fn take(&mut self, peek: Peek) -> Option<IrpLife>
-        ensures first { result ≡ next_listed self.old.queue.queue None peek }
-        ensures taken { IfSome result (λ i. Takes i self.old self.new) }
-        ensures kept { is_none result ≡ true → IsSameIn self.old self.new }
+        ensures { TakesFirst peek result self.old self.new }
     {
         self.queue.remove_next(&mut self.pass, peek)
+    }
+
+    /// Puts an IRP back that a removal gave to the pass, last or first, or finds it flagged. A refusal is the
+    /// first cause that holds.
+    pub(crate) fn put_back(
+        &mut self,
+        irp: IrpLife,
+        place: Place,
+    ) -> Result<OpenInserted, PutBackRefused>
+        ensures { PutsBack irp place result self.old self.new }
+    {
+        self.queue.put_back(&mut self.pass, irp, place)
+    }
+
+    /// Completes an IRP that the pass holds with this status, and begins its next life. Returns whether there
+    /// is none. A refusal is the first cause that holds.
+    pub(crate) fn finish(
+        &mut self,
+        irp: IrpLife,
+        status: NtStatus,
+    ) -> Result<bool, CompleteRefused>
+        ensures { Finishes irp status result self.old self.new }
+    {
+        complete(&mut self.pass, irp, status)?;
+        // It is a present life that was completed: a refused reuse says that it was the last.
+        Ok(self.queue.reuse(&mut self.pass, irp).is_err())
+    }
+
+    /// Takes a listed IRP out as a cancel does: it is flagged, and the pass holds it.
+    pub(crate) fn take_out(&mut self, irp: IrpLife)
+        requires known { IsKnown irp self.old }
+        requires listed { (spot self.old irp.irp).is_listed ≡ true }
+        ensures { TakesOut irp self.old self.new }
+    {
+        if self.pass.mark_cancel(irp.irp, irp.life).is_err() {
+            // It is a present life.
+            unreachable!()
+        }
+        if self.queue.cancel_routine(&mut self.pass, irp).is_err() {
+            // What is listed has its cancel routine, which this pass has just taken.
+            unreachable!()
+        }
+    }
+
+    /// Flags an IRP that the pass holds, as a cancel does.
+    pub(crate) fn flag(&mut self, irp: IrpLife)
+        requires known { IsKnown irp self.old }
+        requires held { (spot self.old irp.irp).is_held ≡ true }
+        ensures { Flags irp self.old self.new }
+    {
+        if self.pass.mark_cancel(irp.irp, irp.life).is_err() {
+            // It is a present life.
+            unreachable!()
+        }
+    }
+
+    /// Closes a file object for good.
+    pub(crate) fn close_file(&mut self, file: FileId) -> Result<(), UnknownFile>
+        ensures { Closes file result self.old self.new }
+    {
+        self.queue.close_file(&mut self.pass, file)
+    }
+}
+
+/// Completes an IRP with this status: with STATUS_CANCELLED what the pass holds, and with another what it got
+/// by a removal. A refusal is the first cause that holds.
+fn complete(
+    pass: &mut CheckedPass,
+    irp: IrpLife,
+    status: NtStatus,
+) -> Result<(), CompleteRefused>
+    ensures cause { result_err result ≡ refusal_of pass.old irp status }
+    ensures held { OnOk result (HoldsKnown irp pass.old) }
+    ensures call { OnOk result (MakesOwnCall (CompletesOne irp status) pass.old pass.new) }
+    ensures kept { OnErr result (pass.new ≡ pass.old) }
+{
+    if status.0 == NtStatus::CANCELLED.0 {
+        pass.complete_cancelled(irp)
+    } else {
+        pass.complete(irp, status)
     }
 }
