@@ -101,15 +101,16 @@ module _ (q : CheckedState) (p : CheckedPassState) (q' : CheckedState) (p' : Che
       now : queue_in (New q p q' p' single) ≡ u'
       now = queue_now q p q' p' single call.after u' (ap (end_of l.first) ends)
 
-      was_home : has_irp u.used (present_in u n) ≡ false
-      was_home =
+      accepted : refusal l u n f ≡ None
+      accepted =
           let legal : IsLegal l (record { pass = p.pass.pass; event = Insert n f place reply.Pending } ∷ h) = subst (IsLegal l) ends (insert_whole (Ok (Pending name)) call call.call.accepted.0 call.call.accepted.2).legal in
-          no_cause (plain_listing l u) n f (pending_none (refusal l u n f) (has_irp u.flags (present_in u n)) legal.0) NotHome
+          pending_none (refusal l u n f) (has_irp u.flags (present_in u n)) legal.0
 
       pub insert_lists : Lists n f place (Old q p q' p' single) (New q p q' p' single)
       insert_lists =
           let here = present_in u n in record {
-          was_home = was_home;
+          accepted = accepted;
+          was_home = no_cause (plain_listing l u) n f accepted NotHome;
           spot_is = ap (λ (x : QueueState). spot_of x p'.pass.steps n) now ∙ spot_eq _ _
               (has_entry-placed place (new_entry here f) u.entries here ∙ ap (λ b. b || has_entry u.entries here) (same_irp-refl here))
               (g.held here) (g.removed here) (ap (λ b. b || has_irp u.used here) (same_irp-refl here)) (g.flags here) refl (ap (λ b. cond b f (u.file_of n)) (same_id-refl n));

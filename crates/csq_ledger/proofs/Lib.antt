@@ -6,3 +6,5 @@ pub mod Inserting
 pub mod Finishing
 pub mod Returning
 pub mod Cancelling
+pub mod Linking
+pub mod Beginning

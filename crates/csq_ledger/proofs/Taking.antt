@@ -1,6 +1,6 @@
 -- A removal of the first match.
 use Rattle.std.proofs.Common.{◌≡◌, ℕ, ◌&&◌, ◌||◌, not, cond, Bool, true, false, true≢false, List, [], ◌∷◌, ◌++◌, map, Option, Some, None, refl, sym, ap, ◌∙◌, subst}
-use Rattle.csq_ledger.proofs.Imports.{IsLegal, end_of, Limits, QueueState, has_entry, has_marked, entries_of, AreTrueOf, HistoryEntry, taken, taken_flagged, queue_size, holds_in, removed_in, or_right, present_in, life_of, same_irp, same_irp-refl, IrpLife, PassId, Made, false_from_ne_true, IsSingle, IsWholeRun}
+use Rattle.csq_ledger.proofs.Imports.{flagged, IsLegal, end_of, Limits, QueueState, has_entry, has_marked, entries_of, AreTrueOf, HistoryEntry, taken, taken_flagged, queue_size, holds_in, removed_in, or_right, present_in, life_of, same_irp, same_irp-refl, IrpLife, PassId, Made, false_from_ne_true, IsSingle, IsWholeRun}
 use Rattle.std.specs.Option.{option_map}
 use Rattle.std.specs.List.{find}
 use Rattle.csq_list.specs.declared.entry.Peek.{Peek}
@@ -12,6 +12,7 @@ use Rattle.csq_words.proofs.Entries.{has_entry-marking, has_entry-without}
 use Rattle.csq_words.proofs.Listings.{plain-without}
 use Rattle.csq_words.proofs.Lives.{ArePresent, legal_lives}
 use Rattle.csq_words.proofs.Named.{irp_eq}
+use Rattle.irp_core.proofs.Facts.{listed_known}
 use Rattle.csq_queue.specs.Calls.{RemovesNext}
 use Rattle.csq_queue.specs.Looks.{next_listed}
 use Rattle.csq_queue.specs.Searches.{marked}
@@ -167,6 +168,8 @@ module _ (q : CheckedState) (p : CheckedPassState) (q' : CheckedState) (p' : Che
             (g.held here ∙ ap (λ b. b || holds_in p.pass.steps here) same_here)
             (g.removed here ∙ ap (λ b. b || removed_in p.pass.steps here) same_here)
             refl (g.flags here) refl refl;
+        known = listed_known (queue_size q.queue.limits) p.pass.steps single.run.is_run i (sym (single.run.listed_is i) ∙ was_listed);
+        was_unflagged = ap (flagged p.pass.steps) (sym is_present) ∙ entry_unflagged q.queue.limits single.one q.queue.queue.history p.pass.steps single.run i was_listed;
         was_listed = ap (has_entry before.entries) (sym is_present) ∙ was_listed;
         list = ap (λ (x : QueueState). map plain x.entries) (now q p q' p' single peek (Some i) call) ∙ plain-without before.lives i (ap life_of is_present) before.entries (lives q p q' p' single peek (Some i) call);
         rest = leaves q p q' p' single (limits q p q' p' single peek (Some i) call) (u' q p q' p' single peek (Some i) call) (now q p q' p' single peek (Some i) call) (λ f. refl) i.irp (record {

@@ -1,2 +1,5 @@
 pub mod Singles
 pub mod Moves
+pub mod Ledgers
+pub mod Refusals
+pub mod Calls

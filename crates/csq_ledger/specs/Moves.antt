@@ -2,6 +2,7 @@
 use Rattle.std.specs.Prelude.{◌≡◌, ◌+◌, ◌||◌, true, false, Bool, Option, None, Some, Result, Err, IfSome, IfOk, IfErr, OnOk, OnErr, IsOk, ◌↔◌, ◌<◌}
 use Rattle.std.specs.Result.{result_err}
 use Rattle.irp_core.specs.Lives.{last_life}
+use Rattle.irp_core.specs.Steps.{number}
 use Rattle.irp_core.specs.declared.ids.{FileId.{FileId}, IrpId.{IrpId}, IrpLife.{IrpLife}}
 use Rattle.irp_core.specs.declared.status.NtStatus.{NtStatus}
 use Rattle.csq_list.specs.Listing.{put_at}
@@ -26,6 +27,7 @@ entry_of n f = record { irp = n; file = f }
 
 -- IRP n was listed for f, at this place
 pub record Lists (n : IrpId) (f : FileId) (place : Place) (s s' : Single) : Type 0 where
+  pub accepted : refusal (limits_of s) (queue_in s) n f ≡ None
   pub was_home : (spot s n).is_used ≡ false
   pub spot_is : spot s' n ≡ record (spot s n) { is_listed = true; is_used = true; file = f }
   pub list : list_of s' ≡ put_at place (entry_of n f) (list_of s)
@@ -41,7 +43,9 @@ pub record Inserts (n : IrpId) (f : FileId) (place : Place) (answer : Result Irp
 -- a removal gave i to the pass
 pub record Takes (i : IrpLife) (s s' : Single) : Type 0 where
   pub is_present : i ≡ present s i.irp
+  pub known : number i < (limits_of s).irps
   pub was_listed : (spot s i.irp).is_listed ≡ true
+  pub was_unflagged : (spot s i.irp).is_flagged ≡ false
   pub spot_is : spot s' i.irp ≡ record (spot s i.irp) { is_listed = false; is_held = true; is_removed = true }
   pub list : list_of s' ≡ entries_without i.irp (list_of s)
   pub rest : Leaves i.irp s s'

@@ -1,0 +1,84 @@
+-- The table says of each number what the queue has of it, after each call.
+use Rattle.std.proofs.Common.{◌≡◌, ℕ, ◌<◌, Bool, true, false, true≢false, List, length, Option, Some, None, refl, sym, ap, ◌∙◌, subst, slice_index_or, slice_set}
+use Rattle.std.proofs.Math.ListN.{length-set}
+use Rattle.std.proofs.lemmas.List.{get_or-set_same, get_or-set_other}
+use Rattle.std.specs.Option.{is_some}
+use Rattle.csq_ledger.proofs.Imports.{FileId, IrpId, Leaves, Single, Spot, spot, IsSameIn}
+use Rattle.request_table.specs.declared.stage.{Why.{Why}, Stage.{Stage, TheVariants.{Free, Listed, Taken, Ending, Spent}}}
+use Rattle.request_table.specs.Requests.{Requests, stage_after, stage_of}
+use Rattle.request_table.specs.Stages.{as_named}
+use Rattle.csq_queue.proofs.Counting.{by_number}
+use Rattle.csq_ledger.specs.Ledgers.{IsLinked, IsSpotOf}
+use Rattle.csq_ledger.specs.Moves.{Ends}
+
+-- of the stages of a table one was written
+module _ (s : Single) (t : Requests) (linked : IsLinked s t) (s' : Single) (n : IrpId) (rest : Leaves n s s') (t' : Requests) (stage : Stage) where
+  pub relinked : n.0 < length t.stages → t'.stages ≡ slice_set t.stages n.0 stage → t'.closed_files ≡ t.closed_files → IsSpotOf stage (spot s' n) → IsLinked s' t'
+  relinked known stages closed here = record {
+    spots = λ m inside. by_number (IsSpotOf (stage_of t' m) (spot s' m)) m.0 n.0
+        (λ same. subst (λ (x : Stage). IsSpotOf x (spot s' m)) (sym (ap (λ (xs : List Stage). slice_index_or xs m.0 Spent) stages ∙ (ap (λ k. slice_index_or (slice_set t.stages n.0 stage) k Spent) same ∙ get_or-set_same t.stages n.0 stage Spent known)))
+            (subst (λ (k : ℕ). IsSpotOf stage (spot s' (record { 0 = k }))) (sym same) here))
+        (λ other. subst (λ (x : Stage). IsSpotOf x (spot s' m)) (sym (ap (λ (xs : List Stage). slice_index_or xs m.0 Spent) stages ∙ get_or-set_other t.stages n.0 m.0 stage Spent other))
+            (subst (IsSpotOf (stage_of t m)) (sym (rest.others m other)) (linked.spots m (subst (λ (k : ℕ). m.0 < k) (ap length stages ∙ length-set t.stages n.0 stage) inside))));
+    irps = ap length stages ∙ (length-set t.stages n.0 stage ∙ (linked.irps ∙ ap (λ l. l.irps) (sym rest.limits)));
+    files = ap length closed ∙ (linked.files ∙ ap (λ l. l.files) (sym rest.limits));
+    closed = λ f. ap (λ (xs : List Bool). slice_index_or xs f.0 false) closed ∙ (linked.closed f ∙ sym (rest.closed f));
+  }
+
+-- nothing is new of the queue, nor of the stages
+pub still_linked : (s : Single) (t : Requests) → IsLinked s t → (s' : Single) → IsSameIn s s' → (t' : Requests) → t'.stages ≡ t.stages → t'.closed_files ≡ t.closed_files → IsLinked s' t'
+still_linked s t linked s' same t' stages closed = record {
+  spots = λ m inside. subst (λ (x : Stage). IsSpotOf x (spot s' m)) (sym (ap (λ (xs : List Stage). slice_index_or xs m.0 Spent) stages))
+      (subst (IsSpotOf (stage_of t m)) (sym (same.spots m)) (linked.spots m (subst (λ (k : ℕ). m.0 < k) (ap length stages) inside)));
+  irps = ap length stages ∙ (linked.irps ∙ ap (λ l. l.irps) (sym same.limits));
+  files = ap length closed ∙ (linked.files ∙ ap (λ l. l.files) (sym same.limits));
+  closed = λ f. ap (λ (xs : List Bool). slice_index_or xs f.0 false) closed ∙ (linked.closed f ∙ sym (same.closed f));
+}
+
+one_file : (f g : FileId) → Some f ≡ Some g → f ≡ g
+one_file f g e = cc
+
+no_file : {P : Type 0} → (g : FileId) → None ≡ Some g → P
+no_file g e = absurd cc
+
+-- how a number stands once it moved
+module _ (x : Spot) (f : FileId) where
+  pub free_listed : IsSpotOf Free x → IsSpotOf (Listed f) (record x { is_listed = true; is_used = true; file = f })
+  free_listed was = record { listed = refl; held = was.held; home = λ e. absurd (true≢false (sym e)); file = one_file f; named = tt }
+
+  module _ (was : IsSpotOf (Listed f) x) where
+    pub listed_taken : x.is_flagged ≡ false → IsSpotOf (Taken f None) (record x { is_listed = false; is_held = true; is_removed = true })
+    listed_taken unflagged = record { listed = refl; held = refl; home = λ e. absurd (true≢false (sym e)); file = was.file; named = (unflagged, λ e. refl) }
+
+    pub listed_drained : (why : Why) → IsSpotOf (Ending f why) (record x { is_listed = false; is_held = true; is_removed = true })
+    listed_drained why = record { listed = refl; held = refl; home = λ e. absurd (true≢false (sym e)); file = was.file; named = tt }
+
+    pub listed_out : (why : Why) → IsSpotOf (Ending f why) (record x { is_listed = false; is_held = true; is_flagged = true })
+    listed_out why = record { listed = refl; held = refl; home = λ e. absurd (true≢false (sym e)); file = was.file; named = tt }
+
+  module _ (named : Option Why) (was : IsSpotOf (Taken f named) x) where
+    pub taken_listed : IsSpotOf (Listed f) (record x { is_listed = true; is_held = false; is_removed = false })
+    taken_listed = record { listed = refl; held = refl; home = λ e. absurd (true≢false (sym e)); file = was.file; named = tt }
+
+    pub taken_found : x.is_flagged ≡ true → IsSpotOf (Taken f named) (record x { is_removed = false })
+    taken_found flag = record { listed = was.listed; held = was.held; home = was.home; file = was.file; named = (was.named.0, λ e. absurd (true≢false (sym flag ∙ (was.named.0 ∙ ap is_some e)))) }
+
+    pub taken_named : (why : Why) → IsSpotOf (as_named why (Taken f named)) (record x { is_flagged = true })
+    taken_named why = go named was
+      where
+        go : (o : Option Why) → IsSpotOf (Taken f o) x → IsSpotOf (as_named why (Taken f o)) (record x { is_flagged = true })
+        go None w = record { listed = w.listed; held = w.held; home = λ e. absurd (true≢false (sym e)); file = w.file; named = (refl, λ e. absurd cc) }
+        go (Some first) w = record { listed = w.listed; held = w.held; home = λ e. absurd (true≢false (sym e)); file = w.file; named = (refl, λ e. absurd cc) }
+
+-- what ended is free, or spent
+pub finished_so : (n : IrpId) (is_last : Bool) (s s' : Single) → Ends n is_last s s' → IsSpotOf (stage_after is_last) (spot s' n)
+finished_so n true s s' ends = record { listed = ends.unlisted; held = ends.unheld; home = λ e. absurd (true≢false (sym e)); file = λ g e. no_file g e; named = tt }
+finished_so n false s s' ends = record { listed = ends.unlisted; held = ends.unheld; home = λ _. ((ends.home refl).0, (ends.home refl).1); file = λ g e. no_file g e; named = tt }
+
+-- what the queue has listed is Listed, and what the table has Listed is listed
+pub stage_listed : (s : Stage) (x : Spot) → IsSpotOf s x → x.is_listed ≡ true → (f : FileId) × (s ≡ Listed f)
+stage_listed (Listed f) x is e = (f, refl)
+stage_listed Free x is e = absurd (true≢false (sym e ∙ is.listed))
+stage_listed (Taken f named) x is e = absurd (true≢false (sym e ∙ is.listed))
+stage_listed (Ending f why) x is e = absurd (true≢false (sym e ∙ is.listed))
+stage_listed Spent x is e = absurd (true≢false (sym e ∙ is.listed))
