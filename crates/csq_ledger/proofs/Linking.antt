@@ -3,13 +3,13 @@ use Rattle.std.proofs.Common.{◌≡◌, ℕ, ◌<◌, Bool, true, false, true�
 use Rattle.std.proofs.Math.ListN.{length-set}
 use Rattle.std.proofs.lemmas.List.{get_or-set_same, get_or-set_other}
 use Rattle.std.specs.Option.{is_some}
-use Rattle.csq_ledger.proofs.Imports.{FileId, IrpId, Leaves, Single, Spot, spot, IsSameIn}
+use Rattle.csq_ledger.proofs.Imports.{FileId, IrpId, IrpLife, Leaves, Single, Spot, spot, IsSameIn}
 use Rattle.request_table.specs.declared.stage.{Why.{Why}, Stage.{Stage, TheVariants.{Free, Listed, Taken, Ending, Spent}}}
-use Rattle.request_table.specs.Requests.{Requests, stage_after, stage_of}
+use Rattle.request_table.specs.Requests.{Requests, stage_after, stage_of, with_due, with_stage}
 use Rattle.request_table.specs.Stages.{as_named}
 use Rattle.csq_queue.proofs.Counting.{by_number}
 use Rattle.csq_ledger.specs.Ledgers.{IsLinked, IsSpotOf}
-use Rattle.csq_ledger.specs.Moves.{Ends}
+use Rattle.csq_ledger.specs.Moves.{Ends, Takes}
 
 -- of the stages of a table one was written
 module _ (s : Single) (t : Requests) (linked : IsLinked s t) (s' : Single) (n : IrpId) (rest : Leaves n s s') (t' : Requests) (stage : Stage) where
@@ -82,3 +82,21 @@ stage_listed Free x is e = absurd (true≢false (sym e ∙ is.listed))
 stage_listed (Taken f named) x is e = absurd (true≢false (sym e ∙ is.listed))
 stage_listed (Ending f why) x is e = absurd (true≢false (sym e ∙ is.listed))
 stage_listed Spent x is e = absurd (true≢false (sym e ∙ is.listed))
+
+-- what a removal gives out is Listed
+pub taken_stage : (s : Single) (t : Requests) → IsLinked s t → (i : IrpLife) (s' : Single) → Takes i s s' → (f : FileId) × (stage_of t i.irp ≡ Listed f)
+taken_stage s t linked i s' takes = stage_listed (stage_of t i.irp) (spot s i.irp) (linked.spots i.irp (subst (λ (k : ℕ). i.irp.0 < k) (sym linked.irps) takes.known)) takes.was_listed
+
+-- and goes on so
+module _ (s : Single) (t : Requests) (linked : IsLinked s t) (i : IrpLife) (s' : Single) (takes : Takes i s s') (f : FileId) (stage : stage_of t i.irp ≡ Listed f) where
+  inside : i.irp.0 < length t.stages
+  inside = subst (λ (k : ℕ). i.irp.0 < k) (sym linked.irps) takes.known
+
+  was : IsSpotOf (Listed f) (spot s i.irp)
+  was = subst (λ (x : Stage). IsSpotOf x (spot s i.irp)) stage (linked.spots i.irp inside)
+
+  pub take_linked : IsLinked s' (with_stage i.irp (Taken f None) t)
+  take_linked = relinked s t linked s' i.irp takes.rest (with_stage i.irp (Taken f None) t) (Taken f None) inside refl refl (subst (IsSpotOf (Taken f None)) (sym takes.spot_is) (listed_taken (spot s i.irp) f was takes.was_unflagged))
+
+  pub drain_linked : (why : Why) → IsLinked s' (with_due i.irp None (with_stage i.irp (Ending f why) t))
+  drain_linked why = relinked s t linked s' i.irp takes.rest (with_due i.irp None (with_stage i.irp (Ending f why) t)) (Ending f why) inside refl refl (subst (IsSpotOf (Ending f why)) (sym takes.spot_is) (listed_drained (spot s i.irp) f was why))

@@ -1,5 +1,5 @@
 -- What each call of a ledger returns, and what is new of it then.
-use Rattle.std.specs.Prelude.{◌≡◌, nat_le, ℕ, Bool, false, if◌then◌else◌, length, slice_get, Option, None, Some, Result, IfOk, OnErr}
+use Rattle.std.specs.Prelude.{◌≡◌, nat_lt, ℕ, Bool, true, if◌then◌else◌, length, slice_get, Option, None, Some, Result, IfOk, OnErr}
 use Rattle.std.specs.Option.{is_none}
 use Rattle.std.specs.Result.{result_err}
 use Rattle.irp_core.specs.declared.ids.{FileId.{FileId}, IrpLife.{IrpLife}}
@@ -20,14 +20,14 @@ pub record IsKept (s s' : LedgerState) : Type 0 where
   pub table : s'.table ≡ s.table
   pub queue : IsSameIn s.single s'.single
 
--- a peek names a file object that there isn't
-abbrev pub is_unknown : LedgerState → Peek → Bool
-is_unknown s Any = false
-is_unknown s (File f) = nat_le (length s.table.closed_files) f.0
+-- a peek is for any file object, or for one that there is
+abbrev pub is_known : Requests → Peek → Bool
+is_known t Any = true
+is_known t (File f) = nat_lt f.0 (length t.closed_files)
 
 -- why nothing is taken
-abbrev pub refusal_to_take : LedgerState → Peek → Option TakeRefused
-refusal_to_take s k = if is_unknown s k then Some take.UnknownFile else (if is_none (next_listed s.single.queue.queue None k) then Some take.NoneListed else None)
+abbrev pub refusal_to_take : Single → Requests → Peek → Option TakeRefused
+refusal_to_take s t k = if is_known t k then (if is_none (next_listed s.queue.queue None k) then Some take.NoneListed else None) else Some take.UnknownFile
 
 -- a request was handed to a worker
 abbrev pub taken_by : Request → Requests → Requests
@@ -39,7 +39,7 @@ drained_by why r t = with_due r.name.irp None (with_stage r.name.irp (Ending r.f
 
 -- the first in the list that matches left it, and the pass holds it; or the first cause why not
 pub record Removes (k : Peek) (answer : Result Request TakeRefused) (s : Single) (t : Requests) (s' : Single) : Type 0 where
-  pub cause : result_err answer ≡ refusal_to_take (record { single = s; table = t }) k
+  pub cause : result_err answer ≡ refusal_to_take s t k
   pub first : IfOk answer (λ r. next_listed s.queue.queue None k ≡ Some r.name)
   pub stage : IfOk answer (λ r. stage_of t r.name.irp ≡ Listed r.file)
   pub taken : IfOk answer (λ r. Takes r.name s s')

@@ -4,7 +4,7 @@ ghost use Rattle.std.specs.Option.{ForSome};
 ghost use Rattle.std.specs.Result.{result_err};
 ghost use Rattle.request_table.specs.declared.dues.TheConstants.{NEVER};
 ghost use Rattle.request_table.specs.Requests.{stage_of};
-ghost use Rattle.csq_ledger.specs.Calls.{Begins, Removes, TakesRequest, drained_by, taken_by};
+ghost use Rattle.csq_ledger.specs.Calls.{Begins, Removes, TakesRequest, drained_by, is_known, taken_by};
 ghost use Rattle.csq_ledger.specs.Ledgers.{IsLinked};
 
 use crate::refusals::{BeginRefused, TakeRefused, by_queue, by_table};
@@ -91,15 +91,25 @@ fn remove_first(
     requires { IsLinked queue.old table.now }
     ensures { Removes peek result queue.old table.now queue.new }
 {
-    if let Peek::File(file) = peek {
-        if file.0 >= table.files() {
-            return Err(TakeRefused::UnknownFile);
-        }
+    if !is_known(table, peek) {
+        return Err(TakeRefused::UnknownFile);
     }
-    let name = queue.take(peek).ok_or(TakeRefused::NoneListed)?;
+    let Some(name) = queue.take(peek) else {
+        return Err(TakeRefused::NoneListed);
+    };
     let Stage::Listed { file } = table.stage(name.irp) else {
         // What is in the queue is Listed.
         unreachable!()
     };
     Ok(Request { name, file })
+}
+
+/// Whether a peek is for any file object, or for one that there is.
+fn is_known(table: &RequestTable, peek: Peek) -> bool
+    ensures { result ≡ is_known table.now peek }
+{
+    match peek {
+        Peek::Any => true,
+        Peek::File(file) => file.0 < table.files(),
+    }
 }
