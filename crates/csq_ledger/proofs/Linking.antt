@@ -1,15 +1,16 @@
 -- The table says of each number what the queue has of it, after each call.
 use Rattle.std.proofs.Common.{◌≡◌, ℕ, ◌<◌, Bool, true, false, true≢false, List, length, Option, Some, None, refl, sym, ap, ◌∙◌, subst, slice_index_or, slice_set}
 use Rattle.std.proofs.Math.ListN.{length-set}
-use Rattle.std.proofs.lemmas.List.{get_or-set_same, get_or-set_other}
+use Rattle.std.proofs.lemmas.List.{get_or-set_same, get_or-set_other, set-get_or}
 use Rattle.std.specs.Option.{is_some}
 use Rattle.csq_ledger.proofs.Imports.{FileId, IrpId, IrpLife, Leaves, Single, Spot, spot, IsSameIn}
 use Rattle.request_table.specs.declared.stage.{Why.{Why}, Stage.{Stage, TheVariants.{Free, Listed, Taken, Ending, Spent}}}
-use Rattle.request_table.specs.Requests.{Requests, stage_after, stage_of, with_due, with_stage}
+use Rattle.request_table.specs.Requests.{Requests, finished, stage_after, stage_of, with_due, with_stage}
 use Rattle.request_table.specs.Stages.{as_named}
 use Rattle.csq_queue.proofs.Counting.{by_number}
 use Rattle.csq_ledger.specs.Ledgers.{IsLinked, IsSpotOf}
-use Rattle.csq_ledger.specs.Moves.{Ends, Takes}
+use Rattle.csq_list.specs.declared.entry.Place.{Place}
+use Rattle.csq_ledger.specs.Moves.{Ends, FindsCancelled, Flags, Relists, Takes, TakesOut}
 
 -- of the stages of a table one was written
 module _ (s : Single) (t : Requests) (linked : IsLinked s t) (s' : Single) (n : IrpId) (rest : Leaves n s s') (t' : Requests) (stage : Stage) where
@@ -100,3 +101,28 @@ module _ (s : Single) (t : Requests) (linked : IsLinked s t) (i : IrpLife) (s' :
 
   pub drain_linked : (why : Why) → IsLinked s' (with_due i.irp None (with_stage i.irp (Ending f why) t))
   drain_linked why = relinked s t linked s' i.irp takes.rest (with_due i.irp None (with_stage i.irp (Ending f why) t)) (Ending f why) inside refl refl (subst (IsSpotOf (Ending f why)) (sym takes.spot_is) (listed_drained (spot s i.irp) f was why))
+
+-- the calls by name
+module _ (s : Single) (t : Requests) (linked : IsLinked s t) (i : IrpLife) (known : i.irp.0 < length t.stages) (s' : Single) where
+  at_stage : (stage : Stage) → stage_of t i.irp ≡ stage → IsSpotOf stage (spot s i.irp)
+  at_stage stage e = subst (λ (x : Stage). IsSpotOf x (spot s i.irp)) e (linked.spots i.irp known)
+
+  pub out_linked : (f : FileId) (why : Why) → stage_of t i.irp ≡ Listed f → TakesOut i s s' → IsLinked s' (with_due i.irp None (with_stage i.irp (Ending f why) t))
+  out_linked f why e out = relinked s t linked s' i.irp out.rest (with_due i.irp None (with_stage i.irp (Ending f why) t)) (Ending f why) known refl refl
+      (subst (IsSpotOf (Ending f why)) (sym out.spot_is) (listed_out (spot s i.irp) f (at_stage (Listed f) e) why))
+
+  module _ (f : FileId) (named : Option Why) (e : stage_of t i.irp ≡ Taken f named) where
+    pub flag_linked : (why : Why) → Flags i s s' → IsLinked s' (with_stage i.irp (as_named why (Taken f named)) t)
+    flag_linked why flags = relinked s t linked s' i.irp flags.rest (with_stage i.irp (as_named why (Taken f named)) t) (as_named why (Taken f named)) known refl refl
+        (subst (IsSpotOf (as_named why (Taken f named))) (sym flags.spot_is) (taken_named (spot s i.irp) f named (at_stage (Taken f named) e) why))
+
+    pub back_linked : (place : Place) → Relists i place s s' → IsLinked s' (with_stage i.irp (Listed f) t)
+    back_linked place back = relinked s t linked s' i.irp back.rest (with_stage i.irp (Listed f) t) (Listed f) known refl refl
+        (subst (IsSpotOf (Listed f)) (sym back.spot_is) (taken_listed (spot s i.irp) f named (at_stage (Taken f named) e)))
+
+    pub found_linked : FindsCancelled i s s' → IsLinked s' t
+    found_linked found = relinked s t linked s' i.irp found.rest t (Taken f named) known (sym (ap (slice_set t.stages i.irp.0) (sym e) ∙ set-get_or t.stages i.irp.0 Spent)) refl
+        (subst (IsSpotOf (Taken f named)) (sym found.spot_is) (taken_found (spot s i.irp) f named (at_stage (Taken f named) e) found.was_flagged))
+
+  pub end_linked : (is_last : Bool) → Ends i.irp is_last s s' → IsLinked s' (with_due i.irp None (finished i.irp is_last t))
+  end_linked is_last ends = relinked s t linked s' i.irp ends.rest (with_due i.irp None (finished i.irp is_last t)) (stage_after is_last) known refl refl (finished_so i.irp is_last s s' ends)

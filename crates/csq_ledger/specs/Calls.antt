@@ -1,19 +1,25 @@
 -- What each call of a ledger returns, and what is new of it then.
-use Rattle.std.specs.Prelude.{◌≡◌, nat_lt, ℕ, Bool, true, if◌then◌else◌, length, slice_get, Option, None, Some, Result, IfOk, OnErr}
+use Rattle.std.specs.Prelude.{◌≡◌, ◌<◌, ◌==◌, ◌↔◌, nat_lt, ℕ, Bool, true, if◌then◌else◌, length, slice_get, slice_set, Option, None, Some, Result, IfOk, IfSome, IsOk, OnOk, OnErr}
 use Rattle.std.specs.Option.{is_none}
 use Rattle.std.specs.Result.{result_err}
-use Rattle.irp_core.specs.declared.ids.{FileId.{FileId}, IrpLife.{IrpLife}}
-use Rattle.request_table.specs.declared.stage.{Why.{Why}, Stage.{TheVariants.{Listed, Taken, Ending}}}
-use Rattle.request_table.specs.Requests.{Requests, begun, stage_of, with_due, with_stage}
+use Rattle.irp_core.specs.declared.ids.{FileId.{FileId}, IrpId.{IrpId}, IrpLife.{IrpLife}}
+use Rattle.irp_core.specs.declared.status.NtStatus.{NtStatus}
+use Rattle.request_table.specs.declared.stage.{Ended.{Ended}, Why.{Why, TheVariants.{Due}}, Stage.{Stage, TheVariants.{Listed, Taken, Ending}}}
+use Rattle.request_table.specs.Requests.{Requests, begun, finished, stage_of, under_way, under_way_of_all, with_due, with_stage}
+use Rattle.request_table.specs.Stages.{as_listed, as_named, file_of, is_listed}
+use Rattle.request_table.specs.Times.{IsOver, NoneIsOver}
+use Rattle.csq_list.specs.declared.refusals.UnknownFile.{UnknownFile}
+use Rattle.csq_checked.specs.declared.unlocked.CompleteRefused.{CompleteRefused}
 use Rattle.csq_list.specs.declared.entry.{Peek.{Peek, TheVariants.{Any, File}}, Place.{Place}}
 use Rattle.csq_queue.specs.Looks.{next_listed}
-use Rattle.csq_ledger.specs.declared.refusals.{BeginRefused.{BeginRefused}, TakeRefused.{TakeRefused}}
+use Rattle.csq_ledger.specs.declared.refusals.{BeginRefused.{BeginRefused}, CancelRefused.{CancelRefused}, EndRefused.{EndRefused}, PutBackRefused.{PutBackRefused}, TakeRefused.{TakeRefused}}
+use Rattle.csq_ledger.specs.declared.refusals.PutBackRefused.TheVariants as back
 use Rattle.csq_ledger.specs.declared.refusals.TakeRefused.TheVariants as take
-use Rattle.csq_ledger.specs.declared.request.Request.{Request}
+use Rattle.csq_ledger.specs.declared.request.{Expired.{Expired}, Request.{Request}}
 use Rattle.csq_ledger.specs.Singles.{Single, IsSameIn, present}
-use Rattle.csq_ledger.specs.Moves.{Lists, Takes}
-use Rattle.csq_ledger.specs.Refusals.{refusal_of_begin}
-use Rattle.csq_ledger.specs.Ledgers.{LedgerState}
+use Rattle.csq_ledger.specs.Moves.{Closes, Ends, FindsCancelled, Flags, Lists, Relists, Takes, TakesOut}
+use Rattle.csq_ledger.specs.Refusals.{refusal_of_begin, refusal_of_cancel, refusal_of_end, refusal_of_finish, refusal_of_put_back}
+use Rattle.csq_ledger.specs.Ledgers.{LedgerState, named_stage}
 
 -- nothing is new of any request, nor of a file object
 pub record IsKept (s s' : LedgerState) : Type 0 where
@@ -59,3 +65,61 @@ pub record Begins (f : FileId) (place : Place) (due : Option ℕ) (answer : Resu
   pub listed : IfOk answer (λ i. Lists i.irp f place s.single s'.single)
   pub table : IfOk answer (λ i. s'.table ≡ with_due i.irp due (begun i.irp f s.table))
   pub kept : OnErr answer (IsKept s s')
+
+-- a request that was taken is listed again, at this place; or the first cause why not
+pub record PutsBackRequest (i : IrpLife) (place : Place) (answer : Result (Unit {0}) PutBackRefused) (s s' : LedgerState) : Type 0 where
+  pub cause : result_err answer ≡ refusal_of_put_back s i
+  pub listed : OnOk answer (Relists i place s.single s'.single)
+  pub table : OnOk answer (s'.table ≡ with_stage i.irp (as_listed (stage_of s.table i.irp)) s.table)
+  pub cancelled : result_err answer ≡ Some back.Cancelled → FindsCancelled i s.single s'.single
+  pub kept : OnErr answer (s'.table ≡ s.table)
+  pub same : OnErr answer (¬ (result_err answer ≡ Some back.Cancelled) → IsSameIn s.single s'.single)
+
+-- the request of IRP n is over: its number is free in its next life, or spent if that was the last; and whether it was the last one under way
+pub record HasEnded (n : IrpId) (ended : Ended) (s s' : LedgerState) : Type 0 where
+  pub is_last : Bool
+  pub ends : Ends n is_last s.single s'.single
+  pub table : s'.table ≡ with_due n None (finished n is_last s.table)
+  pub file : file_of (stage_of s.table n) ≡ Some ended.file
+  pub file_is_quiet : ended.file_is_quiet ≡ (under_way s'.table ended.file == 0)
+  pub all_are_quiet : ended.all_are_quiet ≡ (under_way_of_all s'.table == 0)
+
+-- a request that was taken was completed with this status, and is over; or the first cause why not
+pub record FinishesRequest (i : IrpLife) (status : NtStatus) (answer : Result Ended CompleteRefused) (s s' : LedgerState) : Type 0 where
+  pub cause : result_err answer ≡ refusal_of_finish s i status
+  pub ended : IfOk answer (λ ended. HasEnded i.irp ended s s')
+  pub kept : OnErr answer (s' ≡ s)
+
+-- a request that was ending was completed with STATUS_CANCELLED, and is over; or the first cause why not
+pub record EndsRequest (i : IrpLife) (answer : Result Ended EndRefused) (s s' : LedgerState) : Type 0 where
+  pub cause : result_err answer ≡ refusal_of_end s i
+  pub ended : IfOk answer (λ ended. HasEnded i.irp ended s s')
+  pub kept : OnErr answer (s' ≡ s)
+
+-- a request that was listed is ending, for this reason; one that was taken is named, unless it was before
+abbrev pub CutsShort : IrpLife → Why → Stage → LedgerState → LedgerState → Type 0
+CutsShort i why (Listed f) s s' = TakesOut i s.single s'.single × (s'.table ≡ with_due i.irp None (with_stage i.irp (Ending f why) s.table))
+CutsShort i why (Taken f named) s s' = Flags i s.single s'.single × (s'.table ≡ with_stage i.irp (as_named why (Taken f named)) s.table)
+CutsShort i why stage s s' = s' ≡ s
+
+-- a cancel of a request, by its name, which returns whether it is ending by this cancel; or the first cause why not
+pub record CancelsRequest (i : IrpLife) (why : Why) (answer : Result Bool CancelRefused) (s s' : LedgerState) : Type 0 where
+  pub cause : result_err answer ≡ refusal_of_cancel s i
+  pub answered : IfOk answer (λ is_ending. is_ending ≡ is_listed (named_stage s i))
+  pub cut : OnOk answer (CutsShort i why (named_stage s i) s s')
+  pub kept : OnErr answer (s' ≡ s)
+
+-- the request that is due first is cut short, if it is due now or before: it isn't due any more
+pub record Expires (now : ℕ) (answer : Option Expired) (s s' : LedgerState) : Type 0 where
+  pub over : IfSome answer (λ e. IsOver s.table.dues now e.name.irp)
+  pub name : IfSome answer (λ e. e.name ≡ present s.single e.name.irp)
+  pub cut : IfSome answer (λ e. CutsShort e.name Due (stage_of s.table e.name.irp) (record s { table = with_due e.name.irp None s.table }) s')
+  pub stage : IfSome answer (λ e. e.stage ≡ stage_of s'.table e.name.irp)
+  pub none : answer ≡ None → NoneIsOver s.table.dues now × (s' ≡ s)
+
+-- a file object is closed for good, if there is one
+pub record ClosesFile (f : FileId) (answer : Result (Unit {0}) UnknownFile) (s s' : LedgerState) : Type 0 where
+  pub known : IsOk answer ↔ (f.0 < length s.table.closed_files)
+  pub closed : OnOk answer (s'.table ≡ record s.table { closed_files = slice_set s.table.closed_files f.0 true })
+  pub queue : Closes f answer s.single s'.single
+  pub kept : OnErr answer (s' ≡ s)

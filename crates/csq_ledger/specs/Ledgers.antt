@@ -1,9 +1,9 @@
 -- A queue with its one pass beside a table of its requests: the table says of each number what the queue has of it.
-use Rattle.std.specs.Prelude.{◌≡◌, ◌<◌, ◌==◌, true, false, if◌then◌else◌, length, slice_index_or, None, Some}
+use Rattle.std.specs.Prelude.{◌≡◌, nat_lt, Bool, ◌<◌, ◌==◌, true, false, if◌then◌else◌, length, slice_index_or, None, Some}
 use Rattle.std.specs.Option.{is_some}
 use Rattle.irp_core.specs.Steps.{life_of}
 use Rattle.irp_core.specs.declared.ids.{FileId.{FileId}, IrpId.{IrpId}, IrpLife.{IrpLife}}
-use Rattle.request_table.specs.declared.stage.Stage.{Stage, TheVariants.{Taken, Spent}}
+use Rattle.request_table.specs.declared.stage.Stage.{Stage, TheVariants.{Taken, Ending, Spent}}
 use Rattle.request_table.specs.Requests.{Requests, stage_of}
 use Rattle.request_table.specs.Stages.{file_of, is_free, is_listed, may_finish}
 use Rattle.csq_ledger.specs.Singles.{Single, Spot, is_closed, limits_of, spot}
@@ -36,3 +36,11 @@ pub record IsLinked (s : Single) (t : Requests) : Type 0 where
 -- the stage of a request by its name: a name of another life than the present one is of no request any more
 abbrev pub named_stage : LedgerState → IrpLife → Stage
 named_stage s i = if life_of i == (spot s.single i.irp).life then stage_of s.table i.irp else Spent
+
+abbrev pub is_ending : Stage → Bool
+is_ending (Ending f why) = true
+is_ending _ = false
+
+-- there is such an IRP
+abbrev pub knows : LedgerState → IrpId → Bool
+knows s n = nat_lt n.0 (length s.table.stages)

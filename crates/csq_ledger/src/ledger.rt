@@ -19,8 +19,8 @@ use std::marker::Model;
 /// and when it is due. A contract sees the queue with its one pass, and the table. Own rule.
 #[derive(Drop)]
 pub struct Ledger {
-    queue: SinglePassQueue,
-    table: RequestTable,
+    pub(crate) queue: SinglePassQueue,
+    pub(crate) table: RequestTable,
 }
 
 impl Model for Ledger {

@@ -2,6 +2,7 @@
 //! under way, for which file object, in which stage, and when it is due.
 #![tactic(auto)]
 
+mod by_name;
 mod ledger;
 mod refusals;
 mod request;

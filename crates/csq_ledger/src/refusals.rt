@@ -1,7 +1,8 @@
 //! Why a call of a ledger is refused.
 ghost use Rattle.std.specs.Prelude.{◌≡◌, true};
-ghost use Rattle.csq_ledger.specs.Refusals.{by_queue, by_table, is_crowded};
+ghost use Rattle.csq_ledger.specs.Refusals.{by_put_back, by_queue, by_table, is_crowded, may_refuse};
 
+use csq_checked::PutBackRefused as NotPutBack;
 use csq_list::InsertStatus;
 
 /// Why no request begins, in the order in which the causes are tested. Own rule.
@@ -95,5 +96,20 @@ pub(crate) fn by_queue(cause: InsertStatus) -> BeginRefused
         | InsertStatus::UnknownFile
         | InsertStatus::NotHome
         | InsertStatus::FileClosed => unreachable!(),
+    }
+}
+
+/// Why a request that is taken isn't listed again, by the queue.
+pub(crate) fn by_put_back(cause: NotPutBack) -> PutBackRefused
+    requires { may_refuse cause ≡ true }
+    ensures { result ≡ by_put_back cause }
+{
+    match cause {
+        NotPutBack::NotRemoved => PutBackRefused::NotRemoved,
+        NotPutBack::ByQueue(InsertStatus::FileClosed) => PutBackRefused::FileClosed,
+        NotPutBack::ByQueue(InsertStatus::FileFull) => PutBackRefused::FileFull,
+        NotPutBack::ByQueue(InsertStatus::Full) => PutBackRefused::Full,
+        // The pass holds what is taken, and the queue knows it.
+        NotPutBack::UnknownIrp | NotPutBack::NotHeld | NotPutBack::ByQueue(_) => unreachable!(),
     }
 }

@@ -1,16 +1,16 @@
 //! A queue with its one pass: what its calls make of one IRP.
-ghost use Rattle.std.specs.Prelude.{◌≡◌, true, false, OnOk, OnErr};
+ghost use Rattle.std.specs.Prelude.{◌≡◌, ◌<◌, ◌↔◌, true, false, IfSome, IsSome, OnOk, OnErr};
 ghost use Rattle.std.specs.Result.{result_err};
 ghost use Rattle.csq_queue.specs.Calls.{CompletesOne};
 ghost use Rattle.csq_checked.specs.Calls.{MakesOwnCall};
 ghost use Rattle.csq_checked.specs.Uses.{refusal_of};
 ghost use Rattle.csq_ledger.specs.Moves.{Closes, Finishes, Flags, Inserts, PutsBack, TakesFirst, TakesOut};
-ghost use Rattle.csq_ledger.specs.Singles.{HoldsKnown, IsKnown, spot};
+ghost use Rattle.csq_ledger.specs.Singles.{HoldsKnown, IsKnown, limits_of, spot};
 
 use csq_checked::{CheckedPass, CheckedQueue, CompleteRefused, PutBackRefused};
 use csq_list::{InsertStatus, Peek, Place, UnknownFile};
 use csq_queue::{InsertAnswer, OpenInserted};
-use irp_core::{FileId, IrpId, IrpLife, NtStatus};
+use irp_core::{FileId, IrpId, IrpLife, Life, NtStatus};
 use std::marker::Model;
 
 /// A queue and the one pass that it has. A contract sees both.
@@ -108,6 +108,14 @@ impl SinglePassQueue {
             // It is a present life.
             unreachable!()
         }
+    }
+
+    /// The present life of an IRP. None if there is no such IRP.
+    pub(crate) fn life(&self, irp: IrpId) -> Option<Life>
+        ensures known { IsSome result ↔ (irp.0 < (limits_of self.now).irps) }
+        ensures life { IfSome result (λ life. life.0 ≡ (spot self.now irp).life) }
+    {
+        self.queue.life(irp)
     }
 
     /// Closes a file object for good.
