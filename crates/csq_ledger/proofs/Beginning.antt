@@ -14,7 +14,8 @@ use Rattle.csq_words.specs.Queue.{refusal}
 use Rattle.csq_queue.specs.Looks.{present_listing}
 use Rattle.csq_ledger.specs.Ledgers.{IsLinked, IsSpotOf}
 use Rattle.csq_ledger.specs.Moves.{Lists}
-use Rattle.csq_ledger.specs.Refusals.{crowded, is_crowded}
+use Rattle.csq_ledger.specs.Refusals.{is_crowded}
+use Rattle.csq_ledger.specs.Moves.{crowded}
 use Rattle.csq_ledger.specs.Singles.{is_closed, limits_of, queue_in}
 use Rattle.csq_ledger.proofs.Linking.{relinked, free_listed}
 

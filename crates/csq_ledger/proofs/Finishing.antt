@@ -20,8 +20,10 @@ use Rattle.csq_queue.specs.Steps.{life_before}
 use Rattle.csq_checked.specs.Calls.{MakesOwnCall, ReusesPresentLife}
 use Rattle.csq_checked.specs.Passes.{CheckedPassState, CheckedState}
 use Rattle.csq_checked.specs.declared.calls.CheckedReuseRefused.{CheckedReuseRefused, TheVariants.{UnknownIrp, Stale, NotCompleted, LivesSpent}}
-use Rattle.csq_ledger.specs.Moves.{Ends}
-use Rattle.csq_ledger.specs.Singles.{HoldsKnown, limits_of, queue_in, spot, spot_of}
+use Rattle.csq_ledger.specs.Moves.{Ends, late_cause}
+use Rattle.csq_checked.specs.Uses.{refusal_of}
+use Rattle.std.proofs.lemmas.Bool.{lt-ltb}
+use Rattle.csq_ledger.specs.Singles.{HoldsKnown, IsKnown, limits_of, queue_in, spot, spot_of}
 use Rattle.csq_ledger.proofs.Whole.{Sole, whole_steps, held_present, held_away, held_is, own_all}
 use Rattle.csq_ledger.proofs.Spots.{IsSameFor, same_spot, queue_now, limits_now, single_now, unlike}
 
@@ -228,3 +230,9 @@ module _ (q : CheckedState) (p : CheckedPassState) (single : IsSingle q p) (i : 
     finish_ends (Err UnknownIrp) reuse = absurd (refused_none (Err UnknownIrp) reuse refl)
     finish_ends (Err Stale) reuse = absurd (refused_stale (Err Stale) reuse refl)
     finish_ends (Err NotCompleted) reuse = absurd (refused_undone (Err NotCompleted) reuse refl)
+
+-- why what the pass holds isn't completed
+pub late : (q : CheckedState) (p : CheckedPassState) → IsSingle q p → (i : IrpLife) → IsKnown i (record { queue = q; pass = p }) → holds_in p.pass.steps i ≡ true → (status : NtStatus) → refusal_of p i status ≡ late_cause (removed_in p.pass.steps (present_in (queue_in (record { queue = q; pass = p })) i.irp)) status
+late q p single i known held status =
+    let inside : number i < p.words.size.irps = subst (λ (s : Size). number i < s.irps) single.on.size known.in_range in
+    rw (lt-ltb (number i) p.words.size.irps inside, held, ap (removed_in p.pass.steps) known.is_present) refl

@@ -7,4 +7,5 @@ pub mod Finishing
 pub mod Returning
 pub mod Cancelling
 pub mod Linking
+pub mod Naming
 pub mod Beginning

@@ -1,29 +1,32 @@
 -- A put-back of what a removal gave to the pass.
-use Rattle.std.proofs.Common.{◌≡◌, ◌&&◌, ◌||◌, not, cond, Bool, true, false, true≢false, List, [], ◌∷◌, ◌++◌, map, Some, None, Result, Ok, Err, ◌⊎◌, inl, inr, refl, sym, ap, ◌∙◌, subst, arith}
-use Rattle.csq_ledger.proofs.Imports.{AddsEvents, end_of, Limits, QueueState, queue_size, has_entry, has_marked, entries_of, HistoryEntry, flagged, present_in, owes_in, holds_in, removed_in, number, same_irp, same_irp-refl, run_last, run_less, IsRun, FileId, IrpLife, Made, IsSingle, IsWholeRun}
+use Rattle.std.proofs.Common.{◌<◌, Option,  ◌≡◌, ◌&&◌, ◌||◌, not, cond, Bool, true, false, true≢false, List, [], ◌∷◌, ◌++◌, map, Some, None, Result, Ok, Err, ◌⊎◌, inl, inr, refl, sym, ap, ◌∙◌, subst, arith}
+use Rattle.csq_ledger.proofs.Imports.{has_irp, IsLegal, AddsEvents, end_of, Limits, QueueState, queue_size, has_entry, has_marked, entries_of, HistoryEntry, flagged, present_in, owes_in, holds_in, removed_in, number, same_irp, same_irp-refl, same_id-refl, run_last, run_less, IsRun, FileId, IrpLife, Made, IsSingle, IsWholeRun}
 use Rattle.irp_core.specs.Programs.{Act}
 use Rattle.irp_core.specs.declared.step.Kind.TheVariants.{Disarm, Rearm, Test}
 use Rattle.csq_list.specs.declared.entry.Place.{Place}
 use Rattle.csq_list.specs.declared.refusals.InsertStatus.{InsertStatus}
-use Rattle.csq_words.specs.Queue.{after_event, back_refusal, new_entry, plain}
-use Rattle.csq_words.specs.declared.views.Event.TheVariants.{Mark, PutBack}
+use Rattle.csq_list.specs.declared.refusals.InsertStatus.TheVariants as list
+use Rattle.csq_queue.proofs.Crowding.{pending_none, cancelled_none}
+use Rattle.std.specs.Prelude.{nat_le}
+use Rattle.csq_words.specs.Queue.{after_event, back_refusal, plain_listing, new_entry, plain}
+use Rattle.csq_words.specs.declared.views.Event.TheVariants.{FlagSeen, Mark, PutBack}
 use Rattle.csq_words.specs.declared.views.InsertReply.TheVariants as reply
 use Rattle.csq_words.proofs.Entries.{has_entry-placed}
 use Rattle.csq_words.proofs.Listings.{plain-put_at}
 use Rattle.csq_words.proofs.Marking.{one_marked}
 use Rattle.csq_words.proofs.Named.{irp_eq}
 use Rattle.csq_words.proofs.Facts.{bit_false, bit_true}
-use Rattle.std.proofs.lemmas.Bool.{lt-ltb}
+use Rattle.std.proofs.lemmas.Bool.{lt-leb, lt-ltb}
 use Rattle.csq_queue.specs.Calls.{PutsBack as OpenPutsBack}
 use Rattle.csq_queue.specs.Owned.{HoldsRemoved}
 use Rattle.csq_queue.specs.Steps.{made_by}
 use Rattle.csq_queue.specs.declared.tokens.InsertAnswer.{InsertAnswer, TheVariants.{Pending, Cancelled}}
 use Rattle.csq_checked.specs.Calls.{AreKept, MakesCall, PutsBackRemoved}
-use Rattle.csq_checked.specs.Causes.{put_back_cause}
+use Rattle.csq_checked.specs.Causes.{is_of_place}
 use Rattle.csq_checked.specs.Passes.{CheckedPassState, CheckedState}
 use Rattle.csq_checked.specs.declared.calls.PutBackRefused.{PutBackRefused}
 use Rattle.csq_checked.specs.declared.calls.PutBackRefused.TheVariants as back
-use Rattle.csq_ledger.specs.Moves.{FindsCancelled, PutsBack, Relists}
+use Rattle.csq_ledger.specs.Moves.{closed_or_crowded, back_cause, FindsCancelled, PutsBack, Relists}
 use Rattle.csq_ledger.specs.Singles.{IsSameIn, is_closed, limits_of, list_of, queue_in, spot, spot_of}
 use Rattle.csq_ledger.proofs.Whole.{held_present, still_whole, unmarked}
 use Rattle.csq_ledger.proofs.Spots.{Old, New, queue_now, limits_now, single_now, leaves, all_same, spot_eq, unlike}
@@ -85,6 +88,11 @@ module _ (q : CheckedState) (p : CheckedPassState) (q' : CheckedState) (p' : Che
               let here = has_entry-placed place (new_entry i f) u.entries i ∙ ap (λ b. b || has_entry u.entries i) (same_irp-refl i) in
               absurd (true≢false (sym (one_marked i _ here) ∙ (ap (λ (x : List HistoryEntry). has_marked (end_of l.first x).entries i) (sym seen) ∙ none_marked)))
 
+      pub pending_accepted : back_refusal l u i f ≡ None
+      pending_accepted =
+          let legal : IsLegal l (record { pass = p.pass.pass; event = PutBack i f place reply.Pending } ∷ h) = subst (IsLegal l) ends whole.legal in
+          pending_none (back_refusal l u i f) (has_irp u.flags i) legal.0.2
+
       steps_are : p'.pass.steps ≡ pass_steps ((Test i, 0) ∷ (Rearm i, 0) ∷ [])
       steps_are = call.call.steps.steps ∙ ap (λ b. pass_steps (cond b ((Disarm i, 0) ∷ (Test i, 1) ∷ (Rearm i, 0) ∷ []) ((Test i, 0) ∷ (Rearm i, 0) ∷ []))) none_marked
 
@@ -139,6 +147,12 @@ module _ (q : CheckedState) (p : CheckedPassState) (q' : CheckedState) (p' : Che
       seen_now : queue_in (New q p q' p' single) ≡ v
       seen_now = queue_now q p q' p' single call.after v (ap (end_of l.first) (call.call.accepted.2.ends ∙ ap (λ es. entries_of p.pass.pass es ++ h) call.call.accepted.1.1))
 
+      pub cancelled_accepted : back_refusal l u i f ≡ None
+      cancelled_accepted =
+          let seen : p'.pass.seen ≡ entries_of p.pass.pass (PutBack i f place reply.Cancelled ∷ FlagSeen i ∷ []) ++ h = call.call.accepted.2.ends ∙ ap (λ es. entries_of p.pass.pass es ++ h) call.call.accepted.1.1 in
+          let legal : IsLegal l (entries_of p.pass.pass (PutBack i f place reply.Cancelled ∷ FlagSeen i ∷ []) ++ h) = subst (IsLegal l) seen call.call.accepted.2.legal in
+          cancelled_none (back_refusal l u i f) (has_irp (i ∷ u.flags) i) legal.0.2
+
       -- the Test found the flag set
       set : flagged E i ≡ true
       set =
@@ -189,9 +203,6 @@ module _ (q : CheckedState) (p : CheckedPassState) (q' : CheckedState) (p' : Che
           files = λ m _. refl;
         }) refl
 
-  asked_none : HoldsRemoved l.irps p.pass i → put_back_cause l.irps E i ≡ None
-  asked_none removed = rw (lt-ltb (number i) l.irps removed.known, removed.held, removed.removed) refl
-
   abbrev Asked : Result (InsertAnswer IrpLife IrpLife) InsertStatus → Type 0
   Asked a = MakesCall (OpenPutsBack i place a) q p q' p'
 
@@ -206,32 +217,50 @@ module _ (q : CheckedState) (p : CheckedPassState) (q' : CheckedState) (p' : Che
       let same : New q p q' p' single ≡ Old q p q' p' single = λ k. record { queue = kept.0 k; pass = kept.1 k } in
       record { spots = λ m. ap (λ s. spot s m) same; closed = λ g. ap (λ s. is_closed s g) same; limits = ap limits_of same; list = ap list_of same }
 
-  pub back_moves : (answer : Result (InsertAnswer IrpLife IrpLife) PutBackRefused) → PutsBackRemoved i place answer q p q' p' → PutsBack i place answer (Old q p q' p' single) (New q p q' p' single)
-  back_moves (Ok (Pending context)) r = let is = r.call.call.accepted.1.0 in record {
-    cause = r.cause;
-    held = asked_none r.held;
-    of_place = λ cause e. absurd cc;
-    returned = relists r.held (subst (λ (t : IrpLife). Asked (Ok (Pending t))) is r.call);
-    kept = tt;
-  }
-  back_moves (Ok (Cancelled token)) r = let is = r.call.call.accepted.1.0 in record {
-    cause = r.cause;
-    held = asked_none r.held;
-    of_place = λ cause e. absurd cc;
-    returned = finds_cancelled r.held (subst (λ (t : IrpLife). Asked (Ok (Cancelled t))) is r.call);
-    kept = tt;
-  }
-  back_moves (Err (back.ByQueue cause)) r = record {
-    cause = r.cause;
-    held = asked_none r.held;
-    of_place = λ other e. (r.of_place other e, let same : cause ≡ other = cc in subst (λ (x : InsertStatus). back_refusal l u i f ≡ Some x) same r.call.call.cause);
-    returned = tt;
-    kept = refused_same cause r.call;
-  }
-  back_moves (Err other) r = record {
-    cause = r.cause;
-    held = tt;
-    of_place = λ cause e. absurd cc;
-    returned = tt;
-    kept = kept_same (r.kept refl);
-  }
+  -- of what the pass holds, the queue's cause is that of its list
+  module _ (known : number i < l.irps) (held : holds_in E i ≡ true) where
+    here : i ≡ present_in u i.irp
+    here = irp_eq i (present_in u i.irp) refl (held_present l single.one h E single.run i held)
+
+    by_place : (uf : Bool) (rest o : Option InsertStatus) → cond uf (Some list.UnknownFile) rest ≡ o → (o ≡ Some list.UnknownFile → ⊥) → rest ≡ o
+    by_place false rest o e not_file = e
+    by_place true rest o e not_file = absurd (not_file (sym e))
+
+    by_list : (o : Option InsertStatus) → back_refusal l u i f ≡ o → (o ≡ Some list.UnknownFile → ⊥) → closed_or_crowded (plain_listing l u) f ≡ o
+    by_list o e not_file =
+        let irp : nat_le l.irps i.irp.0 ≡ false = lt-leb l.irps i.irp.0 known in
+        by_place (nat_le l.files f.0) (closed_or_crowded (plain_listing l u) f) o (rw (irp, same_id-refl i.irp) at e) not_file
+
+    removed_is : removed_in E i ≡ removed_in E (present_in u i.irp)
+    removed_is = ap (removed_in E) here
+
+    other_cause : (other : PutBackRefused) (b : Bool) (c : Option InsertStatus) → Some other ≡ cond b None (Some back.NotRemoved) → Some other ≡ back_cause b c
+    other_cause other true c e = absurd (cc)
+    other_cause other false c e = e
+
+    pub back_moves : (answer : Result (InsertAnswer IrpLife IrpLife) PutBackRefused) → PutsBackRemoved i place answer q p q' p' → PutsBack i place answer (Old q p q' p' single) (New q p q' p' single)
+    back_moves (Ok (Pending context)) r =
+        let call = subst (λ (t : IrpLife). Asked (Ok (Pending t))) r.call.call.accepted.1.0 r.call in record {
+        cause = rw (sym removed_is ∙ r.held.removed, by_list None (pending_accepted r.held call) (λ e. absurd cc)) refl;
+        returned = relists r.held call;
+        kept = tt;
+      }
+    back_moves (Ok (Cancelled token)) r =
+        let call = subst (λ (t : IrpLife). Asked (Ok (Cancelled t))) r.call.call.accepted.1.0 r.call in record {
+        cause = rw (sym removed_is ∙ r.held.removed, by_list None (cancelled_accepted r.held call) (λ e. absurd cc)) refl;
+        returned = finds_cancelled r.held call;
+        kept = tt;
+      }
+    back_moves (Err (back.ByQueue cause)) r = record {
+      cause = rw (sym removed_is ∙ r.held.removed, by_list (Some cause) r.call.call.cause (λ e. not_unknown cause (r.of_place cause refl) e)) refl;
+      returned = tt;
+      kept = refused_same cause r.call;
+    }
+      where
+        not_unknown : (cause : InsertStatus) → is_of_place cause ≡ true → Some cause ≡ Some list.UnknownFile → ⊥
+        not_unknown cause of_place e = let is : cause ≡ list.UnknownFile = cc in true≢false (sym of_place ∙ ap is_of_place is)
+    back_moves (Err other) r = record {
+      cause = other_cause other (removed_in E (present_in u i.irp)) (closed_or_crowded (plain_listing l u) f) (r.cause refl ∙ rw (lt-ltb (number i) l.irps known, held, removed_is) refl);
+      returned = tt;
+      kept = kept_same (r.kept refl);
+    }

@@ -1,23 +1,23 @@
 -- What each call of a queue with its one pass returns, and makes of one IRP: all else is as it was.
-use Rattle.std.specs.Prelude.{◌≡◌, ◌+◌, ◌||◌, true, false, Bool, Option, None, Some, Result, Err, IfSome, IfOk, IfErr, OnOk, OnErr, IsOk, ◌↔◌, ◌<◌}
+use Rattle.std.specs.Prelude.{◌≡◌, ◌+◌, ◌==◌, if◌then◌else◌, length, ◌||◌, true, false, Bool, Option, None, Some, Result, IfSome, IfOk, IfErr, OnOk, OnErr, IsOk, ◌↔◌, ◌<◌}
 use Rattle.std.specs.Result.{result_err}
 use Rattle.irp_core.specs.Lives.{last_life}
 use Rattle.irp_core.specs.Steps.{number}
 use Rattle.irp_core.specs.declared.ids.{FileId.{FileId}, IrpId.{IrpId}, IrpLife.{IrpLife}}
-use Rattle.irp_core.specs.declared.status.NtStatus.{NtStatus}
-use Rattle.csq_list.specs.Listing.{put_at}
+use Rattle.irp_core.specs.declared.status.{NtStatus.{NtStatus}, TheConstants.NtStatus.{CANCELLED}}
+use Rattle.csq_list.specs.Listing.{Listing, is_file_full, put_at}
+use Rattle.csq_list.specs.declared.refusals.InsertStatus.TheVariants.{FileClosed, FileFull, Full}
 use Rattle.csq_list.specs.Searches.{entries_without, same_file}
 use Rattle.csq_list.specs.declared.entry.{Entry.{Entry}, Peek.{Peek}, Place.{Place}}
 use Rattle.csq_list.specs.declared.refusals.{InsertStatus.{InsertStatus}, UnknownFile.{UnknownFile}}
-use Rattle.csq_words.specs.Queue.{back_refusal, refusal}
-use Rattle.csq_queue.specs.Looks.{next_listed}
+use Rattle.csq_words.specs.Queue.{refusal}
+use Rattle.csq_queue.specs.Looks.{next_listed, present_listing}
 use Rattle.csq_queue.specs.declared.tokens.InsertAnswer.{InsertAnswer}
 use Rattle.csq_queue.specs.declared.tokens.InsertAnswer.TheVariants.{Pending, Cancelled}
-use Rattle.csq_checked.specs.Calls.{asked_back}
-use Rattle.csq_checked.specs.Causes.{is_of_place, put_back_cause}
-use Rattle.csq_checked.specs.Uses.{refusal_of}
+use Rattle.csq_checked.specs.Causes.{completion_cause}
+use Rattle.std.specs.Option.{option_map}
 use Rattle.csq_checked.specs.declared.calls.PutBackRefused.{PutBackRefused}
-use Rattle.csq_checked.specs.declared.calls.PutBackRefused.TheVariants.{ByQueue}
+use Rattle.csq_checked.specs.declared.calls.PutBackRefused.TheVariants.{ByQueue, NotRemoved}
 use Rattle.csq_checked.specs.declared.unlocked.CompleteRefused.{CompleteRefused}
 use Rattle.csq_ledger.specs.Singles.{Single, Leaves, IsSameIn, is_closed, limits_of, list_of, present, queue_in, spot}
 
@@ -75,13 +75,27 @@ abbrev pub Returns : IrpLife → Place → InsertAnswer IrpLife IrpLife → Sing
 Returns i place (Pending context) s s' = Relists i place s s'
 Returns i place (Cancelled token) s s' = FindsCancelled i s s'
 
--- a put-back of i, or the first cause why not
+-- why a list takes no further IRP for f
+abbrev pub crowded : Listing → FileId → Option InsertStatus
+crowded s f = if is_file_full s f then Some FileFull else (if length s.entries == s.limit then Some Full else None)
+
+-- why it takes none again for f
+abbrev pub closed_or_crowded : Listing → FileId → Option InsertStatus
+closed_or_crowded s f = if s.closed f then Some FileClosed else crowded s f
+
+-- why what the pass holds isn't put back, by whether a removal gave it to the pass
+abbrev pub back_cause : Bool → Option InsertStatus → Option PutBackRefused
+back_cause removed cause = if removed then option_map ByQueue cause else Some NotRemoved
+
+-- a put-back of i, which the pass holds, or the first cause why not
 pub record PutsBack (i : IrpLife) (place : Place) (answer : Result (InsertAnswer IrpLife IrpLife) PutBackRefused) (s s' : Single) : Type 0 where
-  pub cause : asked_back answer ≡ None → result_err answer ≡ put_back_cause (limits_of s).irps s.pass.pass.steps i
-  pub held : IfSome (asked_back answer) (λ a. put_back_cause (limits_of s).irps s.pass.pass.steps i ≡ None)
-  pub of_place : (cause : InsertStatus) → answer ≡ Err (ByQueue cause) → (is_of_place cause ≡ true) × (back_refusal (limits_of s) (queue_in s) i (spot s i.irp).file ≡ Some cause)
+  pub cause : result_err answer ≡ back_cause (spot s i.irp).is_removed (closed_or_crowded (present_listing s.queue.queue) (spot s i.irp).file)
   pub returned : IfOk answer (λ a. Returns i place a s s')
   pub kept : OnErr answer (IsSameIn s s')
+
+-- why what the pass holds isn't completed with this status, by whether a removal gave it to the pass
+abbrev pub late_cause : Bool → NtStatus → Option CompleteRefused
+late_cause removed status = if status.0 == CANCELLED.0 then None else completion_cause removed status
 
 -- a request of IRP n that the pass held ended: its next life is home, or it was the last
 pub record Ends (n : IrpId) (is_last : Bool) (s s' : Single) : Type 0 where
@@ -92,9 +106,9 @@ pub record Ends (n : IrpId) (is_last : Bool) (s s' : Single) : Type 0 where
   pub list : list_of s' ≡ list_of s
   pub rest : Leaves n s s'
 
--- a completion of i with this status, and the beginning of the next life, if i wasn't the last; or the first cause why not
+-- a completion of i, which the pass holds, with this status, and the beginning of the next life, if i wasn't the last; or the first cause why not
 pub record Finishes (i : IrpLife) (status : NtStatus) (answer : Result Bool CompleteRefused) (s s' : Single) : Type 0 where
-  pub cause : result_err answer ≡ refusal_of s.pass i status
+  pub cause : result_err answer ≡ late_cause (spot s i.irp).is_removed status
   pub ended : IfOk answer (λ is_last. Ends i.irp is_last s s')
   pub kept : OnErr answer (s' ≡ s)
 

@@ -1,12 +1,11 @@
 -- Why a call of a ledger is refused, by what is below it.
-use Rattle.std.specs.Prelude.{◌==◌, nat_lt, Bool, true, false, if◌then◌else◌, length, Option, None, Some}
+use Rattle.std.specs.Prelude.{nat_lt, Bool, true, false, if◌then◌else◌, length, Option, None, Some}
 use Rattle.std.specs.Option.{option_map}
 use Rattle.irp_core.specs.declared.ids.FileId.{FileId}
 use Rattle.request_table.specs.declared.refusals.BeginRefused.{BeginRefused as TableRefused}
 use Rattle.request_table.specs.declared.refusals.BeginRefused.TheVariants as of_table
 use Rattle.request_table.specs.Refusals.{refusal_to_begin}
 use Rattle.csq_list.specs.declared.refusals.InsertStatus.{InsertStatus, TheVariants.{FileClosed, FileFull, Full}}
-use Rattle.csq_list.specs.Listing.{Listing, is_file_full}
 use Rattle.csq_queue.specs.Looks.{present_listing}
 use Rattle.csq_ledger.specs.declared.refusals.BeginRefused.{BeginRefused}
 use Rattle.csq_ledger.specs.declared.refusals.BeginRefused.TheVariants as begin
@@ -16,13 +15,14 @@ use Rattle.csq_ledger.specs.declared.refusals.EndRefused.TheVariants as end
 use Rattle.csq_ledger.specs.declared.refusals.CancelRefused.TheVariants as cancel
 use Rattle.irp_core.specs.Steps.{number}
 use Rattle.irp_core.specs.declared.ids.IrpLife.{IrpLife}
-use Rattle.irp_core.specs.declared.status.{NtStatus.{NtStatus}, TheConstants.NtStatus.{CANCELLED}}
+use Rattle.irp_core.specs.declared.status.NtStatus.{NtStatus}
 use Rattle.request_table.specs.Stages.{is_taken, is_under_way}
-use Rattle.csq_checked.specs.Causes.{completion_cause, is_of_place}
+use Rattle.csq_checked.specs.Causes.{is_of_place}
 use Rattle.csq_checked.specs.declared.calls.PutBackRefused.{PutBackRefused as NotPutBack}
 use Rattle.csq_checked.specs.declared.calls.PutBackRefused.TheVariants as not_back
 use Rattle.csq_checked.specs.declared.unlocked.CompleteRefused.{CompleteRefused, TheVariants.{UnknownIrp, NotHeld}}
 use Rattle.csq_ledger.specs.Singles.{spot}
+use Rattle.csq_ledger.specs.Moves.{closed_or_crowded, crowded, late_cause}
 use Rattle.csq_ledger.specs.Ledgers.{LedgerState, is_ending, named_stage}
 
 -- a cause of the table
@@ -43,10 +43,6 @@ is_crowded _ = false
 abbrev pub by_queue : InsertStatus → BeginRefused
 by_queue FileFull = begin.FileFull
 by_queue _ = begin.Full
-
--- why a list takes no further IRP for f
-abbrev pub crowded : Listing → FileId → Option InsertStatus
-crowded s f = if is_file_full s f then Some FileFull else (if length s.entries == s.limit then Some Full else None)
 
 -- the first cause, if there is one
 abbrev pub first_of : Option BeginRefused → Option BeginRefused → Option BeginRefused
@@ -70,10 +66,6 @@ by_put_back (not_back.ByQueue FileFull) = back.FileFull
 by_put_back (not_back.ByQueue Full) = back.Full
 by_put_back _ = back.NotRemoved
 
--- why a list takes an IRP for f again no more
-abbrev pub closed_or_crowded : Listing → FileId → Option InsertStatus
-closed_or_crowded s f = if s.closed f then Some FileClosed else crowded s f
-
 -- why what a removal gave to the pass, and is flagged or not, isn't listed again for f
 abbrev pub refusal_of_list : Bool → Option InsertStatus → Option PutBackRefused
 refusal_of_list flagged None = if flagged then Some back.Cancelled else None
@@ -87,10 +79,6 @@ refusal_of_put_back s i =
     (if (spot s.single i.irp).is_removed then refusal_of_list (spot s.single i.irp).is_flagged (closed_or_crowded (present_listing s.single.queue.queue) (spot s.single i.irp).file) else Some back.NotRemoved)
     else Some back.NotTaken)
     else Some back.UnknownIrp
-
--- why a request that is taken isn't completed with this status, by whether a removal gave it to the pass
-abbrev pub late_cause : Bool → NtStatus → Option CompleteRefused
-late_cause removed status = if status.0 == CANCELLED.0 then None else completion_cause removed status
 
 -- why a request isn't completed with this status
 abbrev pub refusal_of_finish : LedgerState → IrpLife → NtStatus → Option CompleteRefused

@@ -64,8 +64,10 @@ impl Ledger {
         let Stage::Taken { .. } = self.stage(irp) else {
             return Err(CompleteRefused::NotHeld);
         };
-        let is_last = self.queue.finish(irp, status)?;
-        Ok(self.table.finish(irp.irp, is_last))
+        match self.queue.finish(irp, status) {
+            Ok(is_last) => Ok(self.table.finish(irp.irp, is_last)),
+            Err(cause) => Err(cause),
+        }
     }
 
     /// Completes a request that is ending with STATUS_CANCELLED, and ends it, as `finish` does. A refusal is

@@ -56,13 +56,15 @@ impl SinglePassQueue {
         self.queue.remove_next(&mut self.pass, peek)
     }
 
-    /// Puts an IRP back that a removal gave to the pass, last or first, or finds it flagged. A refusal is the
-    /// first cause that holds.
+    /// Puts an IRP back that the pass holds, last or first, or finds it flagged. A refusal is the first cause
+    /// that holds.
     pub(crate) fn put_back(
         &mut self,
         irp: IrpLife,
         place: Place,
     ) -> Result<OpenInserted, PutBackRefused>
+        requires known { IsKnown irp self.old }
+        requires held { (spot self.old irp.irp).is_held ≡ true }
         ensures { PutsBack irp place result self.old self.new }
     {
         self.queue.put_back(&mut self.pass, irp, place)
@@ -75,11 +77,15 @@ impl SinglePassQueue {
         irp: IrpLife,
         status: NtStatus,
     ) -> Result<bool, CompleteRefused>
+        requires known { IsKnown irp self.old }
+        requires held { (spot self.old irp.irp).is_held ≡ true }
         ensures { Finishes irp status result self.old self.new }
     {
-        complete(&mut self.pass, irp, status)?;
-        // It is a present life that was completed: a refused reuse says that it was the last.
-        Ok(self.queue.reuse(&mut self.pass, irp).is_err())
+        match complete(&mut self.pass, irp, status) {
+            // It is a present life that was completed: a refused reuse says that it was the last.
+            Ok(()) => Ok(self.queue.reuse(&mut self.pass, irp).is_err()),
+            Err(cause) => Err(cause),
+        }
     }
 
     /// Takes a listed IRP out as a cancel does: it is flagged, and the pass holds it.
