@@ -9,3 +9,4 @@ pub mod Cancelling
 pub mod Linking
 pub mod Naming
 pub mod Beginning
+pub mod Newness

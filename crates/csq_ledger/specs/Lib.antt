@@ -3,3 +3,4 @@ pub mod Moves
 pub mod Ledgers
 pub mod Refusals
 pub mod Calls
+pub mod Fresh

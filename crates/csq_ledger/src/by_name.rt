@@ -1,9 +1,9 @@
 //! The calls of a ledger that name a request.
-ghost use Rattle.std.specs.Prelude.{◌≡◌, ◌<◌, ◌↔◌, IsSome, IfSome};
+ghost use Rattle.std.specs.Prelude.{◌≡◌, ◌<◌, true};
 ghost use Rattle.request_table.specs.Requests.{stage_of};
 ghost use Rattle.csq_ledger.specs.Calls.{CancelsRequest, CutsShort, EndsRequest, Expires, FinishesRequest, PutsBackRequest};
 ghost use Rattle.csq_ledger.specs.Ledgers.{knows, named_stage};
-ghost use Rattle.csq_ledger.specs.Singles.{IsKnown};
+ghost use Rattle.csq_ledger.specs.Singles.{IsKnown, limits_of};
 
 use crate::ledger::Ledger;
 use crate::refusals::{CancelRefused, EndRefused, PutBackRefused, by_put_back};
@@ -27,7 +27,8 @@ impl Ledger {
 
     /// Whether there is such an IRP.
     pub fn knows(&self, irp: IrpId) -> bool
-        ensures { result ≡ knows self.now irp }
+        ensures known { result ≡ knows self.now irp }
+        ensures in_range { result ≡ true → irp.0 < (limits_of self.now.single).irps }
     {
         irp.0 < self.table.irps()
     }

@@ -4,6 +4,7 @@
 
 mod by_name;
 mod ledger;
+mod making;
 mod refusals;
 mod request;
 mod single;

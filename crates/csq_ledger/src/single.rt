@@ -1,16 +1,18 @@
 //! A queue with its one pass: what its calls make of one IRP.
-ghost use Rattle.std.specs.Prelude.{◌≡◌, ◌<◌, ◌↔◌, true, false, IfSome, IsSome, OnOk, OnErr};
+ghost use Rattle.std.specs.Prelude.{◌≡◌, ◌<◌, ◌↔◌, true, false, Err, IfOk, IfSome, IsSome, OnOk, OnErr};
 ghost use Rattle.std.specs.Result.{result_err};
 ghost use Rattle.csq_queue.specs.Calls.{CompletesOne};
 ghost use Rattle.csq_checked.specs.Calls.{MakesOwnCall};
 ghost use Rattle.csq_checked.specs.Uses.{refusal_of};
+ghost use Rattle.csq_ledger.specs.Fresh.{IsFreshSingle, IsNewOfOne};
 ghost use Rattle.csq_ledger.specs.Moves.{Closes, Finishes, Flags, Inserts, PutsBack, TakesFirst, TakesOut};
 ghost use Rattle.csq_ledger.specs.Singles.{HoldsKnown, IsKnown, limits_of, spot};
 
-use csq_checked::{CheckedPass, CheckedQueue, CompleteRefused, PutBackRefused};
+use csq_checked::{CheckedPass, CheckedQueue, CompleteRefused, PutBackRefused, QueueSize};
 use csq_list::{InsertStatus, Peek, Place, UnknownFile};
 use csq_queue::{InsertAnswer, OpenInserted};
-use irp_core::{FileId, IrpId, IrpLife, Life, NtStatus};
+use irp_core::{FileId, IrpId, IrpLife, Life, NtStatus, SizeRefused};
+use std::alloc::Global;
 use std::marker::Model;
 
 /// A queue and the one pass that it has. A contract sees both.
@@ -31,6 +33,26 @@ impl Model for SinglePassQueue {
 }
 
 impl SinglePassQueue {
+    /// A new queue with its one pass, for which memory is taken. Refused with `Memory` alone.
+    pub(crate) fn over(
+        alloc: Global,
+        size: QueueSize,
+        mut queue: CheckedQueue,
+    ) -> Result<SinglePassQueue, SizeRefused>
+        requires new { IsNewOfOne size queue }
+        ensures made { IfOk result (IsFreshSingle queue.queue.limits) }
+        ensures memory { OnErr result (result ≡ Err SizeRefused.Memory) }
+    {
+        let _ = size;
+        match queue.take_pass(alloc) {
+            Ok(pass) => Ok(SinglePassQueue {
+                queue,
+                pass: Box::into_inner(pass),
+            }),
+            Err(_) => Err(SizeRefused::Memory),
+        }
+    }
+
     /// Lists an IRP that isn't flagged for a file object, last or first, and returns its name, or the first
     /// cause why not.
     pub(crate) fn insert(

@@ -11,7 +11,7 @@ use Rattle.csq_ledger.proofs.ledger.Ledger.end.Goals as goal
 pub finish-requires : goal.finish-requires
 finish-requires c =
     let was : LedgerState = record { single = c.self.inside.queue; table = c.self.inside.table } in
-    let inside : knows was c.args.irp.irp ≡ true = sym (subst (λ (s : LedgerState). true ≡ knows s c.args.irp.irp) (sym c.self.view_is) c.if-not-knows.ensures) in
+    let inside : knows was c.args.irp.irp ≡ true = sym (subst (λ (s : LedgerState). true ≡ knows s c.args.irp.irp) (sym c.self.view_is) c.if-not-knows.ensures.known) in
     let stage : Ending c.in-Ending.file c.in-Ending.why ≡ named_stage was c.args.irp = subst (λ (s : LedgerState). Ending c.in-Ending.file c.in-Ending.why ≡ named_stage s c.args.irp) (sym c.self.view_is) c.in-Ending.ensures in
     record {
       known = is_known was c.self.invariant c.args.irp inside _ stage ending_there;
@@ -27,7 +27,7 @@ finish-requires-in-Ok c =
 pub invariant_of-self : goal.invariant_of-self
 invariant_of-self c =
     let was : LedgerState = record { single = c.self.inside.queue; table = c.self.inside.table } in
-    let inside : knows was c.args.irp.irp ≡ true = sym (subst (λ (s : LedgerState). true ≡ knows s c.args.irp.irp) (sym c.self.view_is) c.if-not-knows.ensures) in
+    let inside : knows was c.args.irp.irp ≡ true = sym (subst (λ (s : LedgerState). true ≡ knows s c.args.irp.irp) (sym c.self.view_is) c.if-not-knows.ensures.known) in
     let stage : Ending c.in-Ending.file c.in-Ending.why ≡ named_stage was c.args.irp = subst (λ (s : LedgerState). Ending c.in-Ending.file c.in-Ending.why ≡ named_stage s c.args.irp) (sym c.self.view_is) c.in-Ending.ensures in
     subst (IsLinked c.finish.new.self) (sym c.finish-in-Ok.ensures.finished) (end_linked c.self.inside.queue c.self.inside.table c.self.invariant c.args.irp (in_table was c.self.invariant c.args.irp inside _ stage ending_there) c.finish.new.self c.in-Ok.is_last c.in-Ok.ensures.ended)
 
@@ -35,7 +35,7 @@ pub returns : goal.returns
 returns c =
     let was : LedgerState = record { single = c.self.inside.queue; table = c.self.inside.table } in
     let now : LedgerState = record { single = c.finish.new.self; table = c.finish-in-Ok.new.self } in
-    let inside : knows was c.args.irp.irp ≡ true = sym (subst (λ (s : LedgerState). true ≡ knows s c.args.irp.irp) (sym c.self.view_is) c.if-not-knows.ensures) in
+    let inside : knows was c.args.irp.irp ≡ true = sym (subst (λ (s : LedgerState). true ≡ knows s c.args.irp.irp) (sym c.self.view_is) c.if-not-knows.ensures.known) in
     let stage : Ending c.in-Ending.file c.in-Ending.why ≡ named_stage was c.args.irp = subst (λ (s : LedgerState). Ending c.in-Ending.file c.in-Ending.why ≡ named_stage s c.args.irp) (sym c.self.view_is) c.in-Ending.ensures in
     let ended : EndsRequest c.args.irp (Ok c.finish-in-Ok.result) was now = record {
       cause = rw (inside, sym (ap is_ending stage)) refl;
