@@ -1,16 +1,14 @@
 -- A new queue with its one pass.
-use Rattle.std.proofs.Common.{◌≡◌, ℕ, zero, suc, ◌<◌, ◌+◌, ◌-◌, map, ◌⊎◌, inl, inr, Bool, true, false, true≢false, List, [], ◌∷◌, length, replicate, Option, Some, None, refl, sym, ap, ◌∙◌, subst, arith, slice_index_or}
+use Rattle.std.proofs.Common.{◌≡◌, ℕ, zero, suc, ◌<◌, ◌+◌, ◌-◌, map, ◌⊎◌, inl, inr, true, false, true≢false, List, [], ◌∷◌, replicate, None, refl, sym, ap, ◌∙◌, subst, arith, slice_index_or}
 use Rattle.std.proofs.lemmas.List.{get_or-replicate, length-replicate}
-use Rattle.csq_ledger.proofs.Imports.{IrpId, IrpLife, FileId, PassRecord, IsSingle, IsWholeRun, Single, Spot, spot, run_none, queue_size, pass_numbered, Limits, HistoryEntry, Made, owes_in, present_life}
+use Rattle.csq_ledger.proofs.Imports.{PassRecord, IsSingle, IsWholeRun, Single, spot, run_none, queue_size, pass_numbered, Limits, HistoryEntry, Made}
 use Rattle.request_table.specs.declared.stage.Stage.{Stage, TheVariants.{Free, Spent}}
-use Rattle.request_table.specs.Requests.{Requests, fresh}
-use Rattle.csq_words.specs.declared.views.QueueRecord.{QueueRecord}
-use Rattle.csq_words.specs.Records.{new_pass, new_queue}
-use Rattle.csq_queue.specs.Opens.{IsQueueOn, OpenState}
+use Rattle.request_table.specs.Requests.{fresh}
+use Rattle.csq_words.specs.Records.{new_pass}
+use Rattle.csq_queue.specs.Opens.{IsQueueOn, OpenPassState, OpenState}
 use Rattle.csq_checked.specs.Passes.{CheckedPassState, CheckedState, HandsOutAgain, HandsOutNew, IsPassIn}
-use Rattle.csq_checked.specs.Sizes.{new_checked}
 use Rattle.csq_checked.specs.declared.size.QueueSize.{QueueSize}
-use Rattle.csq_ledger.specs.Fresh.{IsFreshSingle, IsNewOfOne, with_one_pass}
+use Rattle.csq_ledger.specs.Fresh.{IsFreshSingle, IsNewOfOne}
 use Rattle.csq_ledger.specs.Ledgers.{IsLinked, IsSpotOf}
 use Rattle.csq_ledger.specs.Singles.{queue_in, spot_of}
 use Rattle.std.specs.Option.{is_some}
@@ -32,6 +30,11 @@ nothing_whole l = record {
   lives_are = λ n. omega arith;
 }
 
+-- an idle pass isn't there
+none_there : (n : ℕ) → is_some {T = OpenPassState} (slot_at (None ∷ []) n) ≡ true → ⊥
+none_there zero e = true≢false (sym e)
+none_there (suc n) e = true≢false (sym e)
+
 module _ (size : QueueSize) (q : CheckedState) (new : IsNewOfOne size q) (q' : CheckedState) (p : CheckedPassState) (on : IsPassIn q.queue p) (same : q'.queue ≡ q.queue) (out : HandsOutNew q q' p.pass ⊎ HandsOutAgain q q' p.pass) where
   history_none : q.queue.queue.history ≡ []
   history_none = ap (λ (x : CheckedState). x.queue.queue.history) new.new
@@ -51,10 +54,6 @@ module _ (size : QueueSize) (q : CheckedState) (new : IsNewOfOne size q) (q' : C
       go (inr hands) =
           let idle : q.idle ≡ None ∷ [] = ap (λ (x : CheckedState). x.idle) new.new in
           absurd (none_there hands.slot (subst (λ xs. is_some (slot_at xs hands.slot) ≡ true) idle hands.first.there))
-        where
-          none_there : (n : ℕ) → is_some (slot_at (None ∷ []) n) ≡ true → ⊥
-          none_there zero e = true≢false (sym e)
-          none_there (suc n) e = true≢false (sym e)
 
   pub new_single : IsSingle q' p
   new_single = record {
@@ -90,3 +89,14 @@ fresh_linked size q new s is = record {
   files = length-replicate size.files false ∙ (sym new.files ∙ ap (λ l. l.files) (sym is.limits_are));
   closed = λ f. always size.files f.0 ∙ sym (is.open_files f);
 }
+
+-- what a queue of one pass is made as
+pub new_of_one : (size : QueueSize) (file_limits : List ℕ) (q : CheckedState) → q ≡ new_checked (with_one_pass size) (limits_given (with_one_pass size) file_limits) q.queue.table → IsNewOfOne size q
+new_of_one size file_limits q e =
+    let limits : q.queue.limits ≡ limits_given (with_one_pass size) file_limits = ap (λ (x : CheckedState). x.queue.limits) e in record {
+    new = e ∙ ap (λ (l : Limits). new_checked (with_one_pass size) l q.queue.table) (sym limits);
+    irps = ap (λ (l : Limits). l.irps) limits;
+    files = ap (λ (l : Limits). l.files) limits;
+    passes = ap (λ (l : Limits). l.passes) limits;
+    first = ap (λ (l : Limits). l.first) limits;
+  }

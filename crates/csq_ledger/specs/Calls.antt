@@ -1,6 +1,6 @@
 -- What each call of a ledger returns, and what is new of it then.
 use Rattle.std.specs.Prelude.{◌≡◌, ◌<◌, ◌==◌, ◌↔◌, nat_lt, ℕ, Bool, true, if◌then◌else◌, length, slice_get, slice_set, Option, None, Some, Result, IfOk, IfSome, IsOk, OnOk, OnErr}
-use Rattle.std.specs.Option.{is_none}
+use Rattle.std.specs.Option.{is_none, option_map}
 use Rattle.std.specs.Result.{result_err}
 use Rattle.irp_core.specs.declared.ids.{FileId.{FileId}, IrpId.{IrpId}, IrpLife.{IrpLife}}
 use Rattle.irp_core.specs.declared.status.NtStatus.{NtStatus}
@@ -11,7 +11,8 @@ use Rattle.request_table.specs.Times.{IsOver, NoneIsOver}
 use Rattle.csq_list.specs.declared.refusals.UnknownFile.{UnknownFile}
 use Rattle.csq_checked.specs.declared.unlocked.CompleteRefused.{CompleteRefused}
 use Rattle.csq_list.specs.declared.entry.{Peek.{Peek, TheVariants.{Any, File}}, Place.{Place}}
-use Rattle.csq_queue.specs.Looks.{next_listed}
+use Rattle.csq_queue.specs.Looks.{listed_for, next_listed}
+use Rattle.csq_ledger.specs.declared.looks.Counts.{Counts}
 use Rattle.csq_ledger.specs.declared.refusals.{BeginRefused.{BeginRefused}, CancelRefused.{CancelRefused}, EndRefused.{EndRefused}, PutBackRefused.{PutBackRefused}, TakeRefused.{TakeRefused}}
 use Rattle.csq_ledger.specs.declared.refusals.PutBackRefused.TheVariants as back
 use Rattle.csq_ledger.specs.declared.refusals.TakeRefused.TheVariants as take
@@ -123,3 +124,7 @@ pub record ClosesFile (f : FileId) (answer : Result (Unit {0}) UnknownFile) (s s
   pub closed : OnOk answer (s'.table ≡ record s.table { closed_files = slice_set s.table.closed_files f.0 true })
   pub queue : Closes f answer s.single s'.single
   pub kept : OnErr answer (s' ≡ s)
+
+-- how many requests are listed for a file object, if there is one, and under way
+abbrev pub counts_for : LedgerState → FileId → Option Counts
+counts_for s f = option_map (λ (n : ℕ). record { listed = n; under_way = under_way s.table f }) (listed_for s.single.queue.queue f)

@@ -4,11 +4,13 @@
 
 mod by_name;
 mod ledger;
+mod looks;
 mod making;
 mod refusals;
 mod request;
 mod single;
 
 pub use ledger::Ledger;
+pub use looks::Counts;
 pub use refusals::{BeginRefused, CancelRefused, EndRefused, PutBackRefused, TakeRefused};
 pub use request::{Expired, Request};

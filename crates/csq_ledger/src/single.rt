@@ -2,6 +2,7 @@
 ghost use Rattle.std.specs.Prelude.{◌≡◌, ◌<◌, ◌↔◌, true, false, Err, IfOk, IfSome, IsSome, OnOk, OnErr};
 ghost use Rattle.std.specs.Result.{result_err};
 ghost use Rattle.csq_queue.specs.Calls.{CompletesOne};
+ghost use Rattle.csq_queue.specs.Looks.{listed_count, listed_for};
 ghost use Rattle.csq_checked.specs.Calls.{MakesOwnCall};
 ghost use Rattle.csq_checked.specs.Uses.{refusal_of};
 ghost use Rattle.csq_ledger.specs.Fresh.{IsFreshSingle, IsNewOfOne};
@@ -144,6 +145,20 @@ impl SinglePassQueue {
         ensures life { IfSome result (λ life. life.0 ≡ (spot self.now irp).life) }
     {
         self.queue.life(irp)
+    }
+
+    /// How many IRPs are listed.
+    pub(crate) fn len(&self) -> u32
+        ensures { result ≡ listed_count self.now.queue.queue }
+    {
+        self.queue.len()
+    }
+
+    /// How many IRPs are listed for a file object. None exactly if there is no such one.
+    pub(crate) fn file_len(&self, file: FileId) -> Option<u32>
+        ensures { result ≡ listed_for self.now.queue.queue file }
+    {
+        self.queue.file_len(file)
     }
 
     /// Closes a file object for good.
