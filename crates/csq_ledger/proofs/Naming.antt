@@ -1,10 +1,17 @@
 -- A request by its name.
-use Rattle.std.proofs.Common.{◌≡◌, ℕ, ◌<◌, ◌==◌, cond, Bool, true, false, Option, length, refl, sym, subst, eqb-true, ltb-true}
+use Rattle.std.proofs.Common.{Some, None, Option, cond, ◌≡◌, ℕ, ◌<◌, ◌==◌, Bool, true, false, length, refl, sym, subst, eqb-true, ltb-true}
 use Rattle.std.specs.Prelude.{nat_lt}
 use Rattle.csq_ledger.proofs.Imports.{FileId, IrpLife, life_of, number, spot}
 use Rattle.request_table.specs.declared.stage.{Why.{Why}, Stage.{Stage, TheVariants.{Taken, Ending, Spent}}}
 use Rattle.request_table.specs.Requests.{stage_of}
 use Rattle.csq_words.proofs.Named.{irp_eq}
+use Rattle.csq_list.specs.declared.refusals.InsertStatus.{InsertStatus}
+use Rattle.csq_list.specs.declared.refusals.InsertStatus.TheVariants as list
+use Rattle.csq_checked.specs.declared.calls.PutBackRefused.{PutBackRefused as NotPutBack}
+use Rattle.csq_checked.specs.declared.calls.PutBackRefused.TheVariants as not_back
+use Rattle.csq_ledger.specs.declared.refusals.PutBackRefused.TheVariants as back
+use Rattle.csq_ledger.specs.Moves.{back_cause}
+use Rattle.csq_ledger.specs.Refusals.{by_put_back, may_refuse, refusal_of_list}
 use Rattle.csq_ledger.specs.Ledgers.{IsLinked, IsSpotOf, LedgerState, named_stage}
 use Rattle.csq_ledger.specs.Singles.{IsKnown, present}
 
@@ -33,3 +40,31 @@ taken_there e = absurd cc
 
 pub ending_there : {f : FileId} {why : Why} → Ending f why ≡ Spent → ⊥
 ending_there e = absurd cc
+
+-- a put-back that is accepted
+pub accepted_back : (removed : Bool) (c : Option InsertStatus) → None ≡ back_cause removed c → (removed ≡ true) × (c ≡ None)
+accepted_back true None e = (refl, refl)
+accepted_back true (Some cause) e = absurd (cc)
+accepted_back false c e = absurd (cc)
+
+-- and one that isn't
+pub refused_back : (removed flagged : Bool) (c : Option InsertStatus) (cause : NotPutBack) → Some cause ≡ back_cause removed c → Some (by_put_back cause) ≡ cond removed (refusal_of_list flagged c) (Some back.NotRemoved)
+refused_back true flagged None cause e = absurd (cc)
+refused_back true flagged (Some x) cause e = let is : cause ≡ not_back.ByQueue x = cc in ap (λ y. Some (by_put_back y)) is
+refused_back false flagged c cause e = let is : cause ≡ not_back.NotRemoved = cc in ap (λ y. Some (by_put_back y)) is
+
+pub may_refuse_it : (removed closed full limit : Bool) (cause : NotPutBack) → Some cause ≡ back_cause removed (cond closed (Some list.FileClosed) (cond full (Some list.FileFull) (cond limit (Some list.Full) None))) → may_refuse cause ≡ true
+may_refuse_it false closed full limit cause e = let is : cause ≡ not_back.NotRemoved = cc in ap may_refuse is
+may_refuse_it true true full limit cause e = let is : cause ≡ not_back.ByQueue list.FileClosed = cc in ap may_refuse is
+may_refuse_it true false true limit cause e = let is : cause ≡ not_back.ByQueue list.FileFull = cc in ap may_refuse is
+may_refuse_it true false false true cause e = let is : cause ≡ not_back.ByQueue list.Full = cc in ap may_refuse is
+may_refuse_it true false false false cause e = absurd (cc)
+
+pub never_cancelled : (cause : NotPutBack) → Some (by_put_back cause) ≡ Some back.Cancelled → ⊥
+never_cancelled (not_back.ByQueue list.FileClosed) e = cc
+never_cancelled (not_back.ByQueue list.FileFull) e = cc
+never_cancelled (not_back.ByQueue list.Full) e = cc
+never_cancelled (not_back.ByQueue other) e = cc
+never_cancelled not_back.NotRemoved e = cc
+never_cancelled not_back.UnknownIrp e = cc
+never_cancelled not_back.NotHeld e = cc

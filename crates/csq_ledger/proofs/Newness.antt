@@ -7,8 +7,9 @@ use Rattle.request_table.specs.Requests.{fresh}
 use Rattle.csq_words.specs.Records.{new_pass}
 use Rattle.csq_queue.specs.Opens.{IsQueueOn, OpenPassState, OpenState}
 use Rattle.csq_checked.specs.Passes.{CheckedPassState, CheckedState, HandsOutAgain, HandsOutNew, IsPassIn}
+use Rattle.csq_checked.specs.Sizes.{limits_given, new_checked}
 use Rattle.csq_checked.specs.declared.size.QueueSize.{QueueSize}
-use Rattle.csq_ledger.specs.Fresh.{IsFreshSingle, IsNewOfOne}
+use Rattle.csq_ledger.specs.Fresh.{IsFreshSingle, IsNewOfOne, with_one_pass}
 use Rattle.csq_ledger.specs.Ledgers.{IsLinked, IsSpotOf}
 use Rattle.csq_ledger.specs.Singles.{queue_in, spot_of}
 use Rattle.std.specs.Option.{is_some}

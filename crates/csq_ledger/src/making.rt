@@ -55,7 +55,7 @@ impl Ledger {
         queue: CheckedQueue,
     ) -> Result<Ledger, SizeRefused>
         requires new { IsNewOfOne size queue }
-        ensures made { IfOk result (IsFreshLedger size queue.queue.limits) }
+        ensures { IfOk result (IsFreshLedger size queue.queue.limits) }
     {
         let queue = SinglePassQueue::over(alloc, size, queue)?;
         let table = RequestTable::new(alloc, size.irps, size.files)?;
