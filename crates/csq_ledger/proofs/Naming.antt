@@ -1,5 +1,5 @@
 -- A request by its name.
-use Rattle.std.proofs.Common.{Some, None, Option, cond, ◌≡◌, ℕ, ◌<◌, ◌==◌, Bool, true, false, length, refl, sym, subst, eqb-true, ltb-true}
+use Rattle.std.proofs.Common.{ap, Some, None, Option, cond, ◌≡◌, ℕ, ◌<◌, ◌==◌, Bool, true, false, length, refl, sym, subst, eqb-true, ltb-true}
 use Rattle.std.specs.Prelude.{nat_lt}
 use Rattle.csq_ledger.proofs.Imports.{FileId, IrpLife, life_of, number, spot}
 use Rattle.request_table.specs.declared.stage.{Why.{Why}, Stage.{Stage, TheVariants.{Taken, Ending, Spent}}}

@@ -34,6 +34,14 @@ impl Model for Ledger {
 }
 
 impl Ledger {
+    /// What holds of every ledger: what the table says of each number, and of each file object, is so in the
+    /// queue. Nothing is run.
+    pub fn linked(&self)
+        ensures { IsLinked self.now.single self.now.table }
+    {
+        let _ = &self.table;
+    }
+
     /// Lists a new request under the number that has been free longest, for a file object, last or first, due
     /// at this time or never, and returns its name. A refusal is the first cause that holds.
     pub fn begin(

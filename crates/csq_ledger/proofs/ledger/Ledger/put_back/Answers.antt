@@ -1,6 +1,6 @@
-use Rattle.std.proofs.Common.{◌≡◌, Bool, true, false, true≢false, Ok, Err, Some, None, Option, length, refl, sym, ap, ◌∙◌, subst}
+use Rattle.std.proofs.Common.{◌≡◌, true, Ok, Err, refl, sym, ap, ◌∙◌, subst}
 use Rattle.request_table.specs.declared.stage.Stage.{Stage, TheVariants.{Taken, Listed}}
-use Rattle.request_table.specs.Requests.{stage_of, with_stage}
+use Rattle.request_table.specs.Requests.{with_stage}
 use Rattle.request_table.specs.Stages.{as_listed, is_taken}
 use Rattle.csq_ledger.specs.Calls.{PutsBackRequest}
 use Rattle.csq_ledger.specs.Ledgers.{IsLinked, LedgerState, knows, named_stage}

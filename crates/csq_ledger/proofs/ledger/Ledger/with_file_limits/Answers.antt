@@ -1,7 +1,6 @@
-use Rattle.std.proofs.Common.{◌≡◌, Ok, Err, replicate, ap, ◌∙◌, subst}
+use Rattle.std.proofs.Common.{◌≡◌, Ok, Err, ap, ◌∙◌, subst}
 use Rattle.std.specs.Prelude.{IfOk, IsTrue}
 use Rattle.irp_core.specs.Runs.{IsInLargeLimits}
-use Rattle.irp_core.specs.declared.refusals.SizeRefused.{SizeRefused}
 use Rattle.irp_core.specs.declared.refusals.SizeRefused.TheVariants.{BadSize}
 use Rattle.csq_list.specs.Listing.{IsLargeListSize, are_file_limits}
 use Rattle.csq_words.specs.Queue.{Limits}
