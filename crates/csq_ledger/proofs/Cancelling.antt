@@ -102,15 +102,15 @@ module _ (q : CheckedState) (p : CheckedPassState) (single : IsSingle q p) (i : 
           let r = subst (λ n. IsRun (queue_size l) (after n)) none run in
           let flag : Made = record { pass = p.pass.pass; kind = Flag i; found = found } in
           let before = run_less (queue_size l) (record { pass = p.pass.pass; kind = Take i; found = 0 }) (flag ∷ E) r in record {
-          is_run = r;
-          outside = refl;
-          owes_none = λ j. ap (λ b. b || owes_in E j) (and-false (same_irp i j)) ∙ single.run.owes_none j;
-          legal = single.run.legal;
-          true_of = truths_stay (queue_size l) (record { pass = p.pass.pass; kind = Take i; found = 0 }) (flag ∷ E) r l.first h (truths_stay (queue_size l) flag E before l.first h single.run.true_of);
-          listed_is = single.run.listed_is;
-          used_is = single.run.used_is;
-          lives_are = single.run.lives_are;
-        }
+            is_run = r;
+            outside = refl;
+            owes_none = λ j. ap (λ b. b || owes_in E j) (and-false (same_irp i j)) ∙ single.run.owes_none j;
+            legal = single.run.legal;
+            true_of = truths_stay (queue_size l) (record { pass = p.pass.pass; kind = Take i; found = 0 }) (flag ∷ E) r l.first h (truths_stay (queue_size l) flag E before l.first h single.run.true_of);
+            listed_is = single.run.listed_is;
+            used_is = single.run.used_is;
+            lives_are = single.run.lives_are;
+          }
 
       pub flag_single : IsSingle q p'
       flag_single = single_own q p single p' call.words same_pass same_seen (subst (IsWholeRun l h) (sym now_steps) still)
@@ -119,14 +119,14 @@ module _ (q : CheckedState) (p : CheckedPassState) (single : IsSingle q p) (i : 
       flag_moves =
           let here = present_in u i.irp in
           let same = ap (same_irp i) (sym known.is_present) ∙ same_irp-refl i in record {
-          spot_is = ap (λ (s : List Made). spot_of u s i.irp) now_steps ∙ spot_eq _ _ refl refl refl refl (ap (λ b. b || flagged E here) same) refl refl;
-          list = refl;
-          rest = record {
-            others = λ m ne. ap (λ (s : List Made). spot_of u s m) now_steps ∙ spot_eq _ _ refl refl refl refl (ap (λ b. b || flagged E (present_in u m)) (unlike i (present_in u m) ne)) refl refl;
-            closed = λ f. refl;
-            limits = refl;
-          };
-        }
+            spot_is = ap (λ (s : List Made). spot_of u s i.irp) now_steps ∙ spot_eq _ _ refl refl refl refl (ap (λ b. b || flagged E here) same) refl refl;
+            list = refl;
+            rest = record {
+              others = λ m ne. ap (λ (s : List Made). spot_of u s m) now_steps ∙ spot_eq _ _ refl refl refl refl (ap (λ b. b || flagged E (present_in u m)) (unlike i (present_in u m) ne)) refl refl;
+              closed = λ f. refl;
+              limits = refl;
+            };
+          }
 
     module _ (listed : has_entry u.entries i ≡ true) where
       one : count_given claim ≡ 1
@@ -175,18 +175,18 @@ module _ (q : CheckedState) (p : CheckedPassState) (single : IsSingle q p) (i : 
           out_moves =
               let here = present_in u i.irp in
               let same = ap (same_irp i) (sym known.is_present) ∙ same_irp-refl i in record {
-              spot_is = ap (λ (x : QueueState). spot_of x p''.pass.steps i.irp) now ∙ (ap (λ (s : List Made). spot_of u' s i.irp) out_steps ∙ spot_eq _ _
-                  (entries_now here ∙ ap (λ b. not b && has_entry u.entries here) same)
-                  (ap (λ b. b || holds_in E here) same) refl refl (ap (λ b. b || flagged E here) same) refl refl);
-              list = ap (λ (x : QueueState). map plain x.entries) now ∙ (plain_without_marking i u.entries ∙ plain-without u.lives i (ap life_of known.is_present) u.entries (legal_lives l h single.run.legal).entries);
-              rest = record {
-                others = λ m ne. ap (λ (x : QueueState). spot_of x p''.pass.steps m) now ∙ (ap (λ (s : List Made). spot_of u' s m) out_steps ∙ spot_eq _ _
-                    (entries_now (present_in u m) ∙ ap (λ b. not b && has_entry u.entries (present_in u m)) (unlike i (present_in u m) ne))
-                    (ap (λ b. b || holds_in E (present_in u m)) (unlike i (present_in u m) ne)) refl refl (ap (λ b. b || flagged E (present_in u m)) (unlike i (present_in u m) ne)) refl refl);
-                closed = λ f. ap (λ (x : QueueState). has_file x.closed f) now;
-                limits = limits_after q p' q' p'' routine.call.after;
-              };
-            }
+                spot_is = ap (λ (x : QueueState). spot_of x p''.pass.steps i.irp) now ∙ (ap (λ (s : List Made). spot_of u' s i.irp) out_steps ∙ spot_eq _ _
+                    (entries_now here ∙ ap (λ b. not b && has_entry u.entries here) same)
+                    (ap (λ b. b || holds_in E here) same) refl refl (ap (λ b. b || flagged E here) same) refl refl);
+                list = ap (λ (x : QueueState). map plain x.entries) now ∙ (plain_without_marking i u.entries ∙ plain-without u.lives i (ap life_of known.is_present) u.entries (legal_lives l h single.run.legal).entries);
+                rest = record {
+                  others = λ m ne. ap (λ (x : QueueState). spot_of x p''.pass.steps m) now ∙ (ap (λ (s : List Made). spot_of u' s m) out_steps ∙ spot_eq _ _
+                      (entries_now (present_in u m) ∙ ap (λ b. not b && has_entry u.entries (present_in u m)) (unlike i (present_in u m) ne))
+                      (ap (λ b. b || holds_in E (present_in u m)) (unlike i (present_in u m) ne)) refl refl (ap (λ b. b || flagged E (present_in u m)) (unlike i (present_in u m) ne)) refl refl);
+                  closed = λ f. ap (λ (x : QueueState). has_file x.closed f) now;
+                  limits = limits_after q p' q' p'' routine.call.after;
+                };
+              }
 
 -- by what the two calls returned
 module _ (q : CheckedState) (p : CheckedPassState) (single : IsSingle q p) (i : IrpLife) (known : IsKnown i (record { queue = q; pass = p })) (p' : CheckedPassState) (marked : Result (Option IrpLife) CancelRefused) (mark : MakesOwnCall (MarksCancel i.irp i.life marked) p p') where

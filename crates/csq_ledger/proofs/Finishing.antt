@@ -123,13 +123,13 @@ module _ (q : CheckedState) (p : CheckedPassState) (single : IsSingle q p) (i : 
         let here = present_in u i.irp in
         let spot_now : (m : IrpId) → spot (record { queue = q'; pass = p'' }) m ≡ spot_of u (done ∷ p.pass.steps) m = λ m. (ap (λ (x : QueueState). spot_of x p''.pass.steps m) now ∙ ap (λ (s : List Made). spot_of u s m) steps) in
         let life : u.lives i.irp ≡ last_life = sym (ap life_of (is_present)) ∙ last_now cause.0 ends in record {
-        unlisted = ap (λ x. x.is_listed) (spot_now i.irp) ∙ ap (has_entry u.entries) (sym is_present) ∙ (held_away l single.one h p.pass.steps single.run i held.held).1;
-        unheld = ap (λ x. x.is_held) (spot_now i.irp) ∙ ap (holds_in (done ∷ p.pass.steps)) (sym is_present) ∙ here_unheld;
-        home = λ e. absurd cc;
-        spent = λ _. (ap (λ x. x.is_used) (spot_now i.irp) ∙ (ap (has_irp u.used) (sym is_present) ∙ (held_away l single.one h p.pass.steps single.run i held.held).2), ap (λ x. x.life) (spot_now i.irp), life);
-        list = ap (λ (x : QueueState). map plain x.entries) now;
-        rest = others_same spot_now limits now;
-      }
+          unlisted = ap (λ x. x.is_listed) (spot_now i.irp) ∙ ap (has_entry u.entries) (sym is_present) ∙ (held_away l single.one h p.pass.steps single.run i held.held).1;
+          unheld = ap (λ x. x.is_held) (spot_now i.irp) ∙ ap (holds_in (done ∷ p.pass.steps)) (sym is_present) ∙ here_unheld;
+          home = λ e. absurd cc;
+          spent = λ _. (ap (λ x. x.is_used) (spot_now i.irp) ∙ (ap (has_irp u.used) (sym is_present) ∙ (held_away l single.one h p.pass.steps single.run i held.held).2), ap (λ x. x.life) (spot_now i.irp), life);
+          list = ap (λ (x : QueueState). map plain x.entries) now;
+          rest = others_same spot_now limits now;
+        }
       where
         last_now : life_of (present_in (end_of l.first p''.pass.seen) i.irp) ≡ last_life → p''.pass.seen ≡ h → life_of i ≡ last_life
         last_now e ends = ap life_of is_present ∙ (ap (λ (x : List HistoryEntry). (end_of l.first x).lives i.irp) (sym ends) ∙ e)

@@ -109,22 +109,22 @@ module _ (q : CheckedState) (p : CheckedPassState) (q' : CheckedState) (p' : Che
       pub insert_lists : Lists n f place (Old q p q' p' single) (New q p q' p' single)
       insert_lists =
           let here = present_in u n in record {
-          accepted = accepted;
-          was_home = no_cause (plain_listing l u) n f accepted NotHome;
-          spot_is = ap (λ (x : QueueState). spot_of x p'.pass.steps n) now ∙ spot_eq _ _
-              (has_entry-placed place (new_entry here f) u.entries here ∙ ap (λ b. b || has_entry u.entries here) (same_irp-refl here))
-              (g.held here) (g.removed here) (ap (λ b. b || has_irp u.used here) (same_irp-refl here)) (g.flags here) refl (ap (λ b. cond b f (u.file_of n)) (same_id-refl n));
-          list = ap (λ (x : QueueState). map plain x.entries) now ∙ plain-put_at place (new_entry here f) u.entries;
-          rest = leaves q p q' p' single (limits_now q p q' p' single call.after) u' now (λ _. refl) n (record {
-            entries = λ j ne. has_entry-placed place (new_entry here f) u.entries j ∙ ap (λ b. b || has_entry u.entries j) (unlike here j ne);
-            held = λ j _. g.held j;
-            removed = λ j _. g.removed j;
-            used = λ j ne. ap (λ b. b || has_irp u.used j) (unlike here j ne);
-            flags = λ j _. g.flags j;
-            lives = λ m _. refl;
-            files = λ m ne. ap (λ b. cond b f (u.file_of m)) (same_id-not n m (λ e. ne (ap (λ (x : IrpId). x.0) (sym e))));
-          });
-        }
+            accepted = accepted;
+            was_home = no_cause (plain_listing l u) n f accepted NotHome;
+            spot_is = ap (λ (x : QueueState). spot_of x p'.pass.steps n) now ∙ spot_eq _ _
+                (has_entry-placed place (new_entry here f) u.entries here ∙ ap (λ b. b || has_entry u.entries here) (same_irp-refl here))
+                (g.held here) (g.removed here) (ap (λ b. b || has_irp u.used here) (same_irp-refl here)) (g.flags here) refl (ap (λ b. cond b f (u.file_of n)) (same_id-refl n));
+            list = ap (λ (x : QueueState). map plain x.entries) now ∙ plain-put_at place (new_entry here f) u.entries;
+            rest = leaves q p q' p' single (limits_now q p q' p' single call.after) u' now (λ _. refl) n (record {
+              entries = λ j ne. has_entry-placed place (new_entry here f) u.entries j ∙ ap (λ b. b || has_entry u.entries j) (unlike here j ne);
+              held = λ j _. g.held j;
+              removed = λ j _. g.removed j;
+              used = λ j ne. ap (λ b. b || has_irp u.used j) (unlike here j ne);
+              flags = λ j _. g.flags j;
+              lives = λ m _. refl;
+              files = λ m ne. ap (λ b. cond b f (u.file_of m)) (same_id-not n m (λ e. ne (ap (λ (x : IrpId). x.0) (sym e))));
+            });
+          }
 
   -- a file object is closed
   module _ (f : FileId) where
@@ -135,20 +135,20 @@ module _ (q : CheckedState) (p : CheckedPassState) (q' : CheckedState) (p' : Che
     pub close_moves : (answer : Result (Unit {0}) UnknownFile) → ClosesKnownFile f answer q p q' p' → Closes f answer (Old q p q' p' single) (New q p q' p' single)
     close_moves (Err cause) call =
         let same : New q p q' p' single ≡ Old q p q' p' single = λ k. record { queue = call.kept.0 k; pass = call.kept.1 k } in record {
-        known = call.call.known;
-        closed = tt;
-        spots = λ m. ap (λ s. spot s m) same;
-        list = ap list_of same;
-        limits = ap limits_of same;
-        kept = same;
-      }
+          known = call.call.known;
+          closed = tt;
+          spots = λ m. ap (λ s. spot s m) same;
+          list = ap list_of same;
+          limits = ap limits_of same;
+          kept = same;
+        }
     close_moves (Ok done) call =
         let now = queue_now q p q' p' single call.after (after_event u (CloseFile f)) (ap (end_of l.first) call.call.call.ends) in
         let steps = call.call.steps.steps in record {
-        known = call.call.known;
-        closed = λ g. ap (λ (x : QueueState). has_file x.closed g) now;
-        spots = λ m. ap (λ (x : QueueState). spot_of x p'.pass.steps m) now ∙ ap (λ (s : List Made). spot_of u s m) steps;
-        list = ap (λ (x : QueueState). map plain x.entries) now;
-        limits = limits_now q p q' p' single call.after;
-        kept = tt;
-      }
+          known = call.call.known;
+          closed = λ g. ap (λ (x : QueueState). has_file x.closed g) now;
+          spots = λ m. ap (λ (x : QueueState). spot_of x p'.pass.steps m) now ∙ ap (λ (s : List Made). spot_of u s m) steps;
+          list = ap (λ (x : QueueState). map plain x.entries) now;
+          limits = limits_now q p q' p' single call.after;
+          kept = tt;
+        }

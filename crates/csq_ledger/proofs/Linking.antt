@@ -1,5 +1,5 @@
 -- The table says of each number what the queue has of it, after each call.
-use Rattle.std.proofs.Common.{◌≡◌, ℕ, ◌<◌, Bool, true, false, true≢false, List, length, Option, Some, None, refl, sym, ap, ◌∙◌, subst, slice_index_or, slice_set}
+use Rattle.std.proofs.Common.{Ok, ◌||◌, eq-eqb, ne_eqb, ◌≡◌, ℕ, ◌<◌, Bool, true, false, true≢false, List, length, Option, Some, None, refl, sym, ap, ◌∙◌, subst, slice_index_or, slice_set}
 use Rattle.std.proofs.Math.ListN.{length-set}
 use Rattle.std.proofs.lemmas.List.{get_or-set_same, get_or-set_other, set-get_or}
 use Rattle.std.specs.Option.{is_some}
@@ -9,8 +9,9 @@ use Rattle.request_table.specs.Requests.{Requests, finished, stage_after, stage_
 use Rattle.request_table.specs.Stages.{as_named}
 use Rattle.csq_queue.proofs.Counting.{by_number}
 use Rattle.csq_ledger.specs.Ledgers.{IsLinked, IsSpotOf}
+use Rattle.csq_ledger.specs.Singles.{is_closed}
 use Rattle.csq_list.specs.declared.entry.Place.{Place}
-use Rattle.csq_ledger.specs.Moves.{Ends, FindsCancelled, Flags, Relists, Takes, TakesOut}
+use Rattle.csq_ledger.specs.Moves.{Closes, Ends, FindsCancelled, Flags, Relists, Takes, TakesOut}
 
 -- of the stages of a table one was written
 module _ (s : Single) (t : Requests) (linked : IsLinked s t) (s' : Single) (n : IrpId) (rest : Leaves n s s') (t' : Requests) (stage : Stage) where
@@ -18,9 +19,9 @@ module _ (s : Single) (t : Requests) (linked : IsLinked s t) (s' : Single) (n : 
   relinked known stages closed here = record {
     spots = λ m inside. by_number (IsSpotOf (stage_of t' m) (spot s' m)) m.0 n.0
         (λ same. subst (λ (x : Stage). IsSpotOf x (spot s' m)) (sym (ap (λ (xs : List Stage). slice_index_or xs m.0 Spent) stages ∙ (ap (λ k. slice_index_or (slice_set t.stages n.0 stage) k Spent) same ∙ get_or-set_same t.stages n.0 stage Spent known)))
-            (subst (λ (k : ℕ). IsSpotOf stage (spot s' (record { 0 = k }))) (sym same) here))
+        (subst (λ (k : ℕ). IsSpotOf stage (spot s' (record { 0 = k }))) (sym same) here))
         (λ other. subst (λ (x : Stage). IsSpotOf x (spot s' m)) (sym (ap (λ (xs : List Stage). slice_index_or xs m.0 Spent) stages ∙ get_or-set_other t.stages n.0 m.0 stage Spent other))
-            (subst (IsSpotOf (stage_of t m)) (sym (rest.others m other)) (linked.spots m (subst (λ (k : ℕ). m.0 < k) (ap length stages ∙ length-set t.stages n.0 stage) inside))));
+        (subst (IsSpotOf (stage_of t m)) (sym (rest.others m other)) (linked.spots m (subst (λ (k : ℕ). m.0 < k) (ap length stages ∙ length-set t.stages n.0 stage) inside))));
     irps = ap length stages ∙ (length-set t.stages n.0 stage ∙ (linked.irps ∙ ap (λ l. l.irps) (sym rest.limits)));
     files = ap length closed ∙ (linked.files ∙ ap (λ l. l.files) (sym rest.limits));
     closed = λ f. ap (λ (xs : List Bool). slice_index_or xs f.0 false) closed ∙ (linked.closed f ∙ sym (rest.closed f));
@@ -126,3 +127,17 @@ module _ (s : Single) (t : Requests) (linked : IsLinked s t) (i : IrpLife) (know
 
   pub end_linked : (is_last : Bool) → Ends i.irp is_last s s' → IsLinked s' (with_due i.irp None (finished i.irp is_last t))
   end_linked is_last ends = relinked s t linked s' i.irp ends.rest (with_due i.irp None (finished i.irp is_last t)) (stage_after is_last) known refl refl (finished_so i.irp is_last s s' ends)
+
+-- a file object is closed
+pub close_linked : (s : Single) (t : Requests) → IsLinked s t → (f : FileId) (s' : Single) → Closes f (Ok tt) s s' → IsLinked s' (record t { closed_files = slice_set t.closed_files f.0 true })
+close_linked s t linked f s' closes = record {
+  spots = λ m inside. subst (IsSpotOf (stage_of t m)) (sym (closes.spots m)) (linked.spots m inside);
+  irps = linked.irps ∙ ap (λ l. l.irps) (sym closes.limits);
+  files = length-set t.closed_files f.0 true ∙ (linked.files ∙ ap (λ l. l.files) (sym closes.limits));
+  closed = λ g. by_number (slice_index_or (slice_set t.closed_files f.0 true) g.0 false ≡ is_closed s' g) g.0 f.0
+      (λ same. ap (λ k. slice_index_or (slice_set t.closed_files f.0 true) k false) same ∙ (get_or-set_same t.closed_files f.0 true false inside ∙ sym (closes.closed g ∙ ap (λ b. b || is_closed s g) (eq-eqb f.0 g.0 (sym same)))))
+      (λ other. get_or-set_other t.closed_files f.0 g.0 true false other ∙ (linked.closed g ∙ sym (closes.closed g ∙ ap (λ b. b || is_closed s g) (ne_eqb f.0 g.0 (λ e. other (sym e))))));
+}
+  where
+    inside : f.0 < length t.closed_files
+    inside = subst (λ (k : ℕ). f.0 < k) (sym linked.files) (closes.known.0 refl)

@@ -70,11 +70,11 @@ module _ (size : QueueSize) (q : CheckedState) (new : IsNewOfOne size q) (q' : C
   new_fresh =
       let limits : q'.queue.limits ≡ q.queue.limits = ap (λ (o : OpenState). o.limits) same in
       let empty : queue_in (record { queue = q'; pass = p }) ≡ empty_queue q.queue.limits.first = ap (λ (o : OpenState). present_queue o) same ∙ ap (λ (h : List HistoryEntry). end_of q.queue.limits.first h) history_none in record {
-      limits_are = limits;
-      home = λ n. ap (λ (u : QueueState). spot_of u p.pass.steps n) empty ∙ ap (λ (s : List Made). spot_of (empty_queue q.queue.limits.first) s n) (ap (λ (r : PassRecord). r.steps) pass_is);
-      open_files = λ f. ap (λ (u : QueueState). has_file u.closed f) empty;
-      empty = ap (λ (u : QueueState). map plain u.entries) empty;
-    }
+        limits_are = limits;
+        home = λ n. ap (λ (u : QueueState). spot_of u p.pass.steps n) empty ∙ ap (λ (s : List Made). spot_of (empty_queue q.queue.limits.first) s n) (ap (λ (r : PassRecord). r.steps) pass_is);
+        open_files = λ f. ap (λ (u : QueueState). has_file u.closed f) empty;
+        empty = ap (λ (u : QueueState). map plain u.entries) empty;
+      }
 
 -- a default is read anywhere
 always : (n i : ℕ) → slice_index_or (replicate n false) i false ≡ false
@@ -95,9 +95,9 @@ fresh_linked size q new s is = record {
 pub new_of_one : (size : QueueSize) (file_limits : List ℕ) (q : CheckedState) → q ≡ new_checked (with_one_pass size) (limits_given (with_one_pass size) file_limits) q.queue.table → IsNewOfOne size q
 new_of_one size file_limits q e =
     let limits : q.queue.limits ≡ limits_given (with_one_pass size) file_limits = ap (λ (x : CheckedState). x.queue.limits) e in record {
-    new = e ∙ ap (λ (l : Limits). new_checked (with_one_pass size) l q.queue.table) (sym limits);
-    irps = ap (λ (l : Limits). l.irps) limits;
-    files = ap (λ (l : Limits). l.files) limits;
-    passes = ap (λ (l : Limits). l.passes) limits;
-    first = ap (λ (l : Limits). l.first) limits;
-  }
+      new = e ∙ ap (λ (l : Limits). new_checked (with_one_pass size) l q.queue.table) (sym limits);
+      irps = ap (λ (l : Limits). l.irps) limits;
+      files = ap (λ (l : Limits). l.files) limits;
+      passes = ap (λ (l : Limits). l.passes) limits;
+      first = ap (λ (l : Limits). l.first) limits;
+    }

@@ -1,5 +1,5 @@
 -- A put-back of what a removal gave to the pass.
-use Rattle.std.proofs.Common.{◌<◌, Option,  ◌≡◌, ◌&&◌, ◌||◌, not, cond, Bool, true, false, true≢false, List, [], ◌∷◌, ◌++◌, map, Some, None, Result, Ok, Err, ◌⊎◌, inl, inr, refl, sym, ap, ◌∙◌, subst, arith}
+use Rattle.std.proofs.Common.{◌<◌, Option, ◌≡◌, ◌&&◌, ◌||◌, not, cond, Bool, true, false, true≢false, List, [], ◌∷◌, ◌++◌, map, Some, None, Result, Ok, Err, ◌⊎◌, inl, inr, refl, sym, ap, ◌∙◌, subst, arith}
 use Rattle.csq_ledger.proofs.Imports.{has_irp, IsLegal, AddsEvents, end_of, Limits, QueueState, queue_size, has_entry, has_marked, entries_of, HistoryEntry, flagged, present_in, owes_in, holds_in, removed_in, number, same_irp, same_irp-refl, same_id-refl, run_last, run_less, IsRun, FileId, IrpLife, Made, IsSingle, IsWholeRun}
 use Rattle.irp_core.specs.Programs.{Act}
 use Rattle.irp_core.specs.declared.step.Kind.TheVariants.{Disarm, Rearm, Test}
@@ -113,23 +113,23 @@ module _ (q : CheckedState) (p : CheckedPassState) (q' : CheckedState) (p' : Che
       relists =
           let here = present_in u i.irp in
           let same = ap (same_irp i) (sym is_present) ∙ same_irp-refl i in record {
-          was_unflagged = ap (flagged E) (sym is_present) ∙ clear;
-          spot_is = ap (λ (x : QueueState). spot_of x p'.pass.steps i.irp) now ∙ (ap (λ (s : List Made). spot_of u' s i.irp) steps_are ∙ spot_eq _ _
-              (has_entry-placed place (new_entry i f) u.entries here ∙ ap (λ b. b || has_entry u.entries here) same)
-              (ap (λ b. not b && holds_in E here) same)
-              (ap (λ b. not b && removed_in E here) same)
-              refl refl refl refl);
-          list = ap (λ (x : QueueState). map plain x.entries) now ∙ plain-put_at place (new_entry i f) u.entries;
-          rest = leaves q p q' p' single (limits_now q p q' p' single call.after) u' now (λ _. refl) i.irp (record {
-            entries = λ j ne. has_entry-placed place (new_entry i f) u.entries j ∙ ap (λ b. b || has_entry u.entries j) (unlike i j ne);
-            held = λ j ne. ap (λ s. holds_in s j) steps_are ∙ ap (λ b. not b && holds_in E j) (unlike i j ne);
-            removed = λ j ne. ap (λ s. removed_in s j) steps_are ∙ ap (λ b. not b && removed_in E j) (unlike i j ne);
-            used = λ j _. refl;
-            flags = λ j _. ap (λ s. flagged s j) steps_are;
-            lives = λ m _. refl;
-            files = λ m _. refl;
-          });
-        }
+            was_unflagged = ap (flagged E) (sym is_present) ∙ clear;
+            spot_is = ap (λ (x : QueueState). spot_of x p'.pass.steps i.irp) now ∙ (ap (λ (s : List Made). spot_of u' s i.irp) steps_are ∙ spot_eq _ _
+                (has_entry-placed place (new_entry i f) u.entries here ∙ ap (λ b. b || has_entry u.entries here) same)
+                (ap (λ b. not b && holds_in E here) same)
+                (ap (λ b. not b && removed_in E here) same)
+                refl refl refl refl);
+            list = ap (λ (x : QueueState). map plain x.entries) now ∙ plain-put_at place (new_entry i f) u.entries;
+            rest = leaves q p q' p' single (limits_now q p q' p' single call.after) u' now (λ _. refl) i.irp (record {
+              entries = λ j ne. has_entry-placed place (new_entry i f) u.entries j ∙ ap (λ b. b || has_entry u.entries j) (unlike i j ne);
+              held = λ j ne. ap (λ s. holds_in s j) steps_are ∙ ap (λ b. not b && holds_in E j) (unlike i j ne);
+              removed = λ j ne. ap (λ s. removed_in s j) steps_are ∙ ap (λ b. not b && removed_in E j) (unlike i j ne);
+              used = λ j _. refl;
+              flags = λ j _. ap (λ s. flagged s j) steps_are;
+              lives = λ m _. refl;
+              files = λ m _. refl;
+            });
+          }
 
     module _ (call : MakesCall (OpenPutsBack i place (Ok (Cancelled i))) q p q' p') where
       abbrev acts : List Act
@@ -167,23 +167,23 @@ module _ (q : CheckedState) (p : CheckedPassState) (q' : CheckedState) (p' : Che
           let here = present_in u i.irp in
           let same = ap (same_irp i) (sym is_present) ∙ same_irp-refl i in
           let held = ap (holds_in E) (sym is_present) ∙ removed.held in record {
-          was_flagged = ap (flagged E) (sym is_present) ∙ set;
-          spot_is = ap (λ (x : QueueState). spot_of x p'.pass.steps i.irp) seen_now ∙ (ap (λ (s : List Made). spot_of v s i.irp) seen_steps ∙ spot_eq _ _
-              refl
-              (ap (λ b. ((b && true) || false) || (not b && holds_in E here)) same ∙ sym held)
-              (ap (λ b. ((b && true) && false) || (not b && removed_in E here)) same)
-              refl refl refl refl);
-          list = ap (λ (x : QueueState). map plain x.entries) seen_now;
-          rest = leaves q p q' p' single (limits_now q p q' p' single call.after) v seen_now (λ _. refl) i.irp (record {
-            entries = λ j _. refl;
-            held = λ j ne. ap (λ s. holds_in s j) seen_steps ∙ ap (λ b. ((b && true) || false) || (not b && holds_in E j)) (unlike i j ne);
-            removed = λ j ne. ap (λ s. removed_in s j) seen_steps ∙ ap (λ b. ((b && true) && false) || (not b && removed_in E j)) (unlike i j ne);
-            used = λ j _. refl;
-            flags = λ j _. ap (λ s. flagged s j) seen_steps;
-            lives = λ m _. refl;
-            files = λ m _. refl;
-          });
-        }
+            was_flagged = ap (flagged E) (sym is_present) ∙ set;
+            spot_is = ap (λ (x : QueueState). spot_of x p'.pass.steps i.irp) seen_now ∙ (ap (λ (s : List Made). spot_of v s i.irp) seen_steps ∙ spot_eq _ _
+                refl
+                (ap (λ b. ((b && true) || false) || (not b && holds_in E here)) same ∙ sym held)
+                (ap (λ b. ((b && true) && false) || (not b && removed_in E here)) same)
+                refl refl refl refl);
+            list = ap (λ (x : QueueState). map plain x.entries) seen_now;
+            rest = leaves q p q' p' single (limits_now q p q' p' single call.after) v seen_now (λ _. refl) i.irp (record {
+              entries = λ j _. refl;
+              held = λ j ne. ap (λ s. holds_in s j) seen_steps ∙ ap (λ b. ((b && true) || false) || (not b && holds_in E j)) (unlike i j ne);
+              removed = λ j ne. ap (λ s. removed_in s j) seen_steps ∙ ap (λ b. ((b && true) && false) || (not b && removed_in E j)) (unlike i j ne);
+              used = λ j _. refl;
+              flags = λ j _. ap (λ s. flagged s j) seen_steps;
+              lives = λ m _. refl;
+              files = λ m _. refl;
+            });
+          }
 
   -- the queue refused it
   module _ (cause : InsertStatus) (call : MakesCall (OpenPutsBack i place (Err cause)) q p q' p') where
@@ -241,16 +241,16 @@ module _ (q : CheckedState) (p : CheckedPassState) (q' : CheckedState) (p' : Che
     pub back_moves : (answer : Result (InsertAnswer IrpLife IrpLife) PutBackRefused) → PutsBackRemoved i place answer q p q' p' → PutsBack i place answer (Old q p q' p' single) (New q p q' p' single)
     back_moves (Ok (Pending context)) r =
         let call = subst (λ (t : IrpLife). Asked (Ok (Pending t))) r.call.call.accepted.1.0 r.call in record {
-        cause = rw (sym removed_is ∙ r.held.removed, by_list None (pending_accepted r.held call) (λ e. absurd cc)) refl;
-        returned = relists r.held call;
-        kept = tt;
-      }
+          cause = rw (sym removed_is ∙ r.held.removed, by_list None (pending_accepted r.held call) (λ e. absurd cc)) refl;
+          returned = relists r.held call;
+          kept = tt;
+        }
     back_moves (Ok (Cancelled token)) r =
         let call = subst (λ (t : IrpLife). Asked (Ok (Cancelled t))) r.call.call.accepted.1.0 r.call in record {
-        cause = rw (sym removed_is ∙ r.held.removed, by_list None (cancelled_accepted r.held call) (λ e. absurd cc)) refl;
-        returned = finds_cancelled r.held call;
-        kept = tt;
-      }
+          cause = rw (sym removed_is ∙ r.held.removed, by_list None (cancelled_accepted r.held call) (λ e. absurd cc)) refl;
+          returned = finds_cancelled r.held call;
+          kept = tt;
+        }
     back_moves (Err (back.ByQueue cause)) r = record {
       cause = rw (sym removed_is ∙ r.held.removed, by_list (Some cause) r.call.call.cause (λ e. not_unknown cause (r.of_place cause refl) e)) refl;
       returned = tt;

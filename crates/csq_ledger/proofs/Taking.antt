@@ -162,26 +162,26 @@ module _ (q : CheckedState) (p : CheckedPassState) (q' : CheckedState) (p' : Che
     pub take_some : Takes i (Old q p q' p' single) (New q p q' p' single)
     take_some =
         let here = present_in before i.irp in record {
-        is_present = is_present;
-        spot_is = ap (λ (x : QueueState). spot_of x p'.pass.steps i.irp) (now q p q' p' single peek (Some i) call) ∙ spot_eq _ _
-            (has_entry-without i before.entries here ∙ ap (λ b. not b && has_entry before.entries here) same_here)
-            (g.held here ∙ ap (λ b. b || holds_in p.pass.steps here) same_here)
-            (g.removed here ∙ ap (λ b. b || removed_in p.pass.steps here) same_here)
-            refl (g.flags here) refl refl;
-        known = listed_known (queue_size q.queue.limits) p.pass.steps single.run.is_run i (sym (single.run.listed_is i) ∙ was_listed);
-        was_unflagged = ap (flagged p.pass.steps) (sym is_present) ∙ entry_unflagged q.queue.limits single.one q.queue.queue.history p.pass.steps single.run i was_listed;
-        was_listed = ap (has_entry before.entries) (sym is_present) ∙ was_listed;
-        list = ap (λ (x : QueueState). map plain x.entries) (now q p q' p' single peek (Some i) call) ∙ plain-without before.lives i (ap life_of is_present) before.entries (lives q p q' p' single peek (Some i) call);
-        rest = leaves q p q' p' single (limits q p q' p' single peek (Some i) call) (u' q p q' p' single peek (Some i) call) (now q p q' p' single peek (Some i) call) (λ f. refl) i.irp (record {
-          entries = λ j ne. has_entry-without i before.entries j ∙ ap (λ b. not b && has_entry before.entries j) (unlike i j ne);
-          held = λ j ne. g.held j ∙ ap (λ b. b || holds_in p.pass.steps j) (unlike i j ne);
-          removed = λ j ne. g.removed j ∙ ap (λ b. b || removed_in p.pass.steps j) (unlike i j ne);
-          used = λ j _. refl;
-          flags = λ j _. g.flags j;
-          lives = λ m _. refl;
-          files = λ m _. refl;
-        });
-      }
+          is_present = is_present;
+          spot_is = ap (λ (x : QueueState). spot_of x p'.pass.steps i.irp) (now q p q' p' single peek (Some i) call) ∙ spot_eq _ _
+              (has_entry-without i before.entries here ∙ ap (λ b. not b && has_entry before.entries here) same_here)
+              (g.held here ∙ ap (λ b. b || holds_in p.pass.steps here) same_here)
+              (g.removed here ∙ ap (λ b. b || removed_in p.pass.steps here) same_here)
+              refl (g.flags here) refl refl;
+          known = listed_known (queue_size q.queue.limits) p.pass.steps single.run.is_run i (sym (single.run.listed_is i) ∙ was_listed);
+          was_unflagged = ap (flagged p.pass.steps) (sym is_present) ∙ entry_unflagged q.queue.limits single.one q.queue.queue.history p.pass.steps single.run i was_listed;
+          was_listed = ap (has_entry before.entries) (sym is_present) ∙ was_listed;
+          list = ap (λ (x : QueueState). map plain x.entries) (now q p q' p' single peek (Some i) call) ∙ plain-without before.lives i (ap life_of is_present) before.entries (lives q p q' p' single peek (Some i) call);
+          rest = leaves q p q' p' single (limits q p q' p' single peek (Some i) call) (u' q p q' p' single peek (Some i) call) (now q p q' p' single peek (Some i) call) (λ f. refl) i.irp (record {
+            entries = λ j ne. has_entry-without i before.entries j ∙ ap (λ b. not b && has_entry before.entries j) (unlike i j ne);
+            held = λ j ne. g.held j ∙ ap (λ b. b || holds_in p.pass.steps j) (unlike i j ne);
+            removed = λ j ne. g.removed j ∙ ap (λ b. b || removed_in p.pass.steps j) (unlike i j ne);
+            used = λ j _. refl;
+            flags = λ j _. g.flags j;
+            lives = λ m _. refl;
+            files = λ m _. refl;
+          });
+        }
 
 pub take_moves : (q : CheckedState) (p : CheckedPassState) (q' : CheckedState) (p' : CheckedPassState) (single : IsSingle q p) (peek : Peek) (got : Option IrpLife) → MakesCall (RemovesNext peek got) q p q' p' → TakesFirst peek got (Old q p q' p' single) (New q p q' p' single)
 take_moves q p q' p' single peek None call = record { first = take_first q p q' p' single peek None call; taken = tt; none = λ _. take_none q p q' p' single peek call }

@@ -49,11 +49,7 @@ impl Ledger {
     }
 
     /// A ledger over this new queue.
-    fn over(
-        alloc: Global,
-        size: QueueSize,
-        queue: CheckedQueue,
-    ) -> Result<Ledger, SizeRefused>
+    fn over(alloc: Global, size: QueueSize, queue: CheckedQueue) -> Result<Ledger, SizeRefused>
         requires new { IsNewOfOne size queue }
         ensures { IfOk result (IsFreshLedger size queue.queue.limits) }
     {

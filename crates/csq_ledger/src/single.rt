@@ -95,11 +95,7 @@ impl SinglePassQueue {
 
     /// Completes an IRP that the pass holds with this status, and begins its next life. Returns whether there
     /// is none. A refusal is the first cause that holds.
-    pub(crate) fn finish(
-        &mut self,
-        irp: IrpLife,
-        status: NtStatus,
-    ) -> Result<bool, CompleteRefused>
+    pub(crate) fn finish(&mut self, irp: IrpLife, status: NtStatus) -> Result<bool, CompleteRefused>
         requires known { IsKnown irp self.old }
         requires held { (spot self.old irp.irp).is_held ≡ true }
         ensures { Finishes irp status result self.old self.new }
@@ -171,11 +167,7 @@ impl SinglePassQueue {
 
 /// Completes an IRP with this status: with STATUS_CANCELLED what the pass holds, and with another what it got
 /// by a removal. A refusal is the first cause that holds.
-fn complete(
-    pass: &mut CheckedPass,
-    irp: IrpLife,
-    status: NtStatus,
-) -> Result<(), CompleteRefused>
+fn complete(pass: &mut CheckedPass, irp: IrpLife, status: NtStatus) -> Result<(), CompleteRefused>
     ensures cause { result_err result ≡ refusal_of pass.old irp status }
     ensures held { OnOk result (HoldsKnown irp pass.old) }
     ensures call { OnOk result (MakesOwnCall (CompletesOne irp status) pass.old pass.new) }
