@@ -10,3 +10,4 @@ pub mod Linking
 pub mod Naming
 pub mod Beginning
 pub mod Newness
+pub mod Files

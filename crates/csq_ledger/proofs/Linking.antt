@@ -1,5 +1,5 @@
 -- The table says of each number what the queue has of it, after each call.
-use Rattle.std.proofs.Common.{Ok, ◌||◌, eq-eqb, ne_eqb, ◌≡◌, ℕ, ◌<◌, Bool, true, false, true≢false, List, length, Option, Some, None, refl, sym, ap, ◌∙◌, subst, slice_index_or, slice_set}
+use Rattle.std.proofs.Common.{Ok, cond, ◌||◌, eq-eqb, ne_eqb, ◌≡◌, ℕ, ◌<◌, Bool, true, false, true≢false, List, length, Option, Some, None, refl, sym, ap, ◌∙◌, subst, slice_index_or, slice_set}
 use Rattle.std.proofs.Math.ListN.{length-set}
 use Rattle.std.proofs.lemmas.List.{get_or-set_same, get_or-set_other, set-get_or}
 use Rattle.std.specs.Option.{is_some}
@@ -8,7 +8,7 @@ use Rattle.request_table.specs.declared.stage.{Why.{Why}, Stage.{Stage, TheVaria
 use Rattle.request_table.specs.Requests.{Requests, finished, stage_after, stage_of, with_due, with_stage}
 use Rattle.request_table.specs.Stages.{as_named}
 use Rattle.csq_queue.proofs.Counting.{by_number}
-use Rattle.csq_ledger.specs.Ledgers.{IsLinked, IsSpotOf}
+use Rattle.csq_ledger.specs.Ledgers.{file_in_list, IsLinked, IsSpotOf}
 use Rattle.csq_ledger.specs.Singles.{is_closed}
 use Rattle.csq_list.specs.declared.entry.Place.{Place}
 use Rattle.csq_ledger.specs.Moves.{Closes, Ends, FindsCancelled, Flags, Relists, Takes, TakesOut}
@@ -141,3 +141,11 @@ close_linked s t linked f s' closes = record {
   where
     inside : f.0 < length t.closed_files
     inside = subst (λ (k : ℕ). f.0 < k) (sym linked.files) (closes.known.0 refl)
+
+-- so the list has what the table has Listed
+pub stage_in_list : (s : Stage) (x : Spot) → IsSpotOf s x → cond x.is_listed (Some x.file) None ≡ file_in_list s
+stage_in_list (Listed f) x is = rw (is.listed, is.file f refl) refl
+stage_in_list Free x is = rw is.listed refl
+stage_in_list (Taken f named) x is = rw is.listed refl
+stage_in_list (Ending f why) x is = rw is.listed refl
+stage_in_list Spent x is = rw is.listed refl

@@ -1,12 +1,12 @@
 -- A queue with its one pass beside a table of its requests: the table says of each number what the queue has of it.
-use Rattle.std.specs.Prelude.{◌≡◌, nat_lt, Bool, ◌<◌, ◌==◌, true, false, if◌then◌else◌, length, slice_index_or, None, Some}
+use Rattle.std.specs.Prelude.{Option, ◌≡◌, nat_lt, Bool, ◌<◌, ◌==◌, true, false, if◌then◌else◌, length, slice_index_or, None, Some}
 use Rattle.std.specs.Option.{is_some}
 use Rattle.irp_core.specs.Steps.{life_of}
 use Rattle.irp_core.specs.declared.ids.{FileId.{FileId}, IrpId.{IrpId}, IrpLife.{IrpLife}}
-use Rattle.request_table.specs.declared.stage.Stage.{Stage, TheVariants.{Taken, Ending, Spent}}
+use Rattle.request_table.specs.declared.stage.Stage.{Stage, TheVariants.{Listed, Taken, Ending, Spent}}
 use Rattle.request_table.specs.Requests.{Requests, stage_of}
 use Rattle.request_table.specs.Stages.{file_of, is_free, is_listed, may_finish}
-use Rattle.csq_ledger.specs.Singles.{Single, Spot, is_closed, limits_of, spot}
+use Rattle.csq_ledger.specs.Singles.{Single, Spot, file_listed, is_closed, list_of, limits_of, spot}
 
 -- the queue with its pass, and the table
 pub record LedgerState : Type 0 where
@@ -44,3 +44,12 @@ is_ending _ = false
 -- there is such an IRP
 abbrev pub knows : LedgerState → IrpId → Bool
 knows s n = nat_lt n.0 (length s.table.stages)
+
+-- the file object for which a number of this stage is listed
+abbrev pub file_in_list : Stage → Option FileId
+file_in_list (Listed f) = Some f
+file_in_list _ = None
+
+-- a number stands in the list exactly if its stage is Listed, for that file object
+abbrev pub ListAgrees : LedgerState → Type 0
+ListAgrees s = (n : IrpId) → n.0 < length s.table.stages → file_listed (list_of s.single) n ≡ file_in_list (stage_of s.table n)

@@ -1,5 +1,7 @@
 -- A queue with its one pass, and what is so of each of its IRPs in the present life.
-use Rattle.std.specs.Prelude.{◌≡◌, ◌≢◌, ℕ, ◌<◌, Bool, true, false, List}
+use Rattle.std.specs.Prelude.{◌≡◌, ◌≢◌, ℕ, ◌<◌, Bool, true, false, if◌then◌else◌, List, Option, Some, None}
+use Rattle.std.specs.List.{find}
+use Rattle.std.specs.Option.{option_map}
 use Rattle.irp_core.specs.declared.ids.{FileId.{FileId}, IrpId.{IrpId}, IrpLife.{IrpLife}}
 use Rattle.irp_core.specs.declared.inside.Inside.TheVariants.{Nothing}
 use Rattle.irp_core.specs.declared.step.Made.{Made}
@@ -9,6 +11,7 @@ use Rattle.irp_core.specs.Owners.{listed as is_listed_by}
 use Rattle.irp_core.specs.Runs.{IsRun}
 use Rattle.irp_core.specs.Steps.{number}
 use Rattle.irp_core.specs.Words.{flagged, was_armed}
+use Rattle.csq_list.specs.Searches.{is_of}
 use Rattle.csq_list.specs.declared.entry.Entry.{Entry}
 use Rattle.csq_words.specs.declared.views.HistoryEntry.{HistoryEntry}
 use Rattle.csq_words.specs.History.{IsLegal, end_of}
@@ -65,6 +68,10 @@ present s n = present_in (queue_in s) n
 abbrev pub list_of : Single → List Entry
 list_of s = listed s.queue
 
+-- the file object for which IRP n stands among these, if it does
+abbrev pub file_listed : List Entry → IrpId → Option FileId
+file_listed es n = option_map (λ (e : Entry). e.file) (find (is_of n) es)
+
 -- whether a file object is closed
 abbrev pub is_closed : Single → FileId → Bool
 is_closed s f = has_file (queue_in s).closed f
@@ -110,3 +117,7 @@ pub record IsKnown (i : IrpLife) (s : Single) : Type 0 where
 pub record HoldsKnown (i : IrpLife) (p : CheckedPassState) : Type 0 where
   pub in_range : number i < p.words.size.irps
   pub held : holds_in p.pass.steps i ≡ true
+
+-- IRP n stands in the list exactly if it is listed, for the file object that it was accepted for
+abbrev pub IsListedSo : Single → IrpId → Type 0
+IsListedSo s n = file_listed (list_of s) n ≡ (if (spot s n).is_listed then Some (spot s n).file else None)

@@ -5,7 +5,7 @@ ghost use Rattle.std.specs.Result.{result_err};
 ghost use Rattle.request_table.specs.declared.dues.TheConstants.{NEVER};
 ghost use Rattle.request_table.specs.Requests.{stage_of};
 ghost use Rattle.csq_ledger.specs.Calls.{Begins, Removes, TakesRequest, drained_by, is_known, taken_by};
-ghost use Rattle.csq_ledger.specs.Ledgers.{IsLinked};
+ghost use Rattle.csq_ledger.specs.Ledgers.{IsLinked, ListAgrees};
 
 use crate::refusals::{BeginRefused, TakeRefused, by_queue, by_table};
 use crate::request::Request;
@@ -35,11 +35,13 @@ impl Model for Ledger {
 
 impl Ledger {
     /// What holds of every ledger: what the table says of each number, and of each file object, is so in the
-    /// queue. Nothing is run.
+    /// queue, and a number stands in the list exactly if its stage is Listed, for that file object. Nothing is
+    /// run.
     pub fn linked(&self)
-        ensures { IsLinked self.now.single self.now.table }
+        ensures linked { IsLinked self.now.single self.now.table }
+        ensures list { ListAgrees self.now }
     {
-        let _ = &self.table;
+        self.queue.listed_so();
     }
 
     /// Lists a new request under the number that has been free longest, for a file object, last or first, due

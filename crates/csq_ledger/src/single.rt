@@ -1,4 +1,5 @@
 //! A queue with its one pass: what its calls make of one IRP.
+ghost use Rattle.irp_core.specs.declared.ids.IrpId.{IrpId};
 ghost use Rattle.std.specs.Prelude.{◌≡◌, ◌<◌, ◌↔◌, true, false, Err, IfOk, IfSome, IsSome, OnOk, OnErr};
 ghost use Rattle.std.specs.Result.{result_err};
 ghost use Rattle.csq_queue.specs.Calls.{CompletesOne};
@@ -7,7 +8,7 @@ ghost use Rattle.csq_checked.specs.Calls.{MakesOwnCall};
 ghost use Rattle.csq_checked.specs.Uses.{refusal_of};
 ghost use Rattle.csq_ledger.specs.Fresh.{IsFreshSingle, IsNewOfOne};
 ghost use Rattle.csq_ledger.specs.Moves.{Closes, Finishes, Flags, Inserts, PutsBack, TakesFirst, TakesOut};
-ghost use Rattle.csq_ledger.specs.Singles.{HoldsKnown, IsKnown, limits_of, spot};
+ghost use Rattle.csq_ledger.specs.Singles.{HoldsKnown, IsKnown, IsListedSo, limits_of, spot};
 
 use csq_checked::{CheckedPass, CheckedQueue, CompleteRefused, PutBackRefused, QueueSize};
 use csq_list::{InsertStatus, Peek, Place, UnknownFile};
@@ -133,6 +134,13 @@ impl SinglePassQueue {
             // It is a present life.
             unreachable!()
         }
+    }
+
+    /// What is listed stands in the list for the file object that it was accepted for. Nothing is run.
+    pub(crate) fn listed_so(&self)
+        ensures { (n : IrpId) → IsListedSo self.now n }
+    {
+        let _ = &self.pass;
     }
 
     /// The present life of an IRP. None if there is no such IRP.
