@@ -71,8 +71,8 @@ use std::sync::Arc;
 /// is shut down ([`Requests::shutdown`]) or dropped. A submit waits for room
 /// ([`RequestPass::submit_timeout`]), and ends or takes of requests wake those who wait for it.
 ///
-/// A request may have a deadline ([`RequestPass::submit_until`]). When it is over, the next look for
-/// those that are due cancels the request: by an event loop ([`OwnedPass::cancel_due`]) or by a
+/// A request may have a deadline ([`RequestPass::submit_until`]). When it is over, the next look
+/// for those that are due cancels the request: by an event loop ([`OwnedPass::cancel_due`]) or by a
 /// thread ([`OwnedPass::recv_due`]).
 ///
 /// Passes borrow nothing, so a queue may be dropped while threads wait through them. Then all are
