@@ -77,13 +77,7 @@ impl<T> OwnedPass<T> {
     /// # Ok::<(), Box<dyn std::error::Error>>(())
     /// ```
     pub fn submit(&self, value: T, file: u32, place: Place) -> Result<RequestId, Refused<T>> {
-        let due = None;
-        self.shared().submit(Submission {
-            value,
-            file,
-            place,
-            due,
-        })
+        self.shared().submit(Submission::new(value, file, place))
     }
 
     /// [`OwnedPass::submit`], which waits for room at most this long, as
@@ -116,13 +110,7 @@ impl<T> OwnedPass<T> {
         place: Place,
         limit: Duration,
     ) -> Result<RequestId, Refused<T>> {
-        let due = None;
-        let it = Submission {
-            value,
-            file,
-            place,
-            due,
-        };
+        let it = Submission::new(value, file, place);
         self.shared().submit_waiting(it, limit)
     }
 
@@ -151,13 +139,9 @@ impl<T> OwnedPass<T> {
         place: Place,
         due: Instant,
     ) -> Result<RequestId, Refused<T>> {
-        let due = Some(self.shared().due_at(due));
-        self.shared().submit(Submission {
-            value,
-            file,
-            place,
-            due,
-        })
+        let due = self.shared().due_at(due);
+        let it = Submission::new(value, file, place);
+        self.shared().submit(it.due_at(due))
     }
 
     /// [`OwnedPass::submit_timeout`] for a task, which waits by its waker and without a limit.
@@ -176,16 +160,7 @@ impl<T> OwnedPass<T> {
     /// ```
     #[cfg(feature = "async")]
     pub fn submit_async(&self, value: T, file: u32, place: Place) -> SubmitFuture<T> {
-        let due = None;
-        SubmitFuture::new(
-            self.clone(),
-            Submission {
-                value,
-                file,
-                place,
-                due,
-            },
-        )
+        SubmitFuture::new(self.clone(), Submission::new(value, file, place))
     }
 
     /// Takes the first listed request of a file object, or of any, that no canceller has.

@@ -99,13 +99,7 @@ impl<T> RequestPass<T> {
     /// # Ok::<(), Box<dyn std::error::Error>>(())
     /// ```
     pub fn submit(&self, value: T, file: u32, place: Place) -> Result<RequestId, Refused<T>> {
-        let due = None;
-        self.shared().submit(Submission {
-            value,
-            file,
-            place,
-            due,
-        })
+        self.shared().submit(Submission::new(value, file, place))
     }
 
     /// [`RequestPass::submit`], which waits for room at most this long where it would return
@@ -136,13 +130,7 @@ impl<T> RequestPass<T> {
         place: Place,
         limit: Duration,
     ) -> Result<RequestId, Refused<T>> {
-        let due = None;
-        let it = Submission {
-            value,
-            file,
-            place,
-            due,
-        };
+        let it = Submission::new(value, file, place);
         self.shared().submit_waiting(it, limit)
     }
 
@@ -172,13 +160,9 @@ impl<T> RequestPass<T> {
         place: Place,
         due: Instant,
     ) -> Result<RequestId, Refused<T>> {
-        let due = Some(self.shared().due_at(due));
-        self.shared().submit(Submission {
-            value,
-            file,
-            place,
-            due,
-        })
+        let due = self.shared().due_at(due);
+        let it = Submission::new(value, file, place);
+        self.shared().submit(it.due_at(due))
     }
 
     /// Takes the first listed request of a file object, or of any, that no canceller has. Takes the

@@ -22,6 +22,26 @@ pub(super) struct Submission<T> {
     pub(super) due: Option<u64>,
 }
 
+impl<T> Submission<T> {
+    /// This value, for this file object, with no deadline.
+    pub(super) fn new(value: T, file: u32, place: Place) -> Submission<T> {
+        Submission {
+            value,
+            file,
+            place,
+            due: None,
+        }
+    }
+
+    /// The same, due at this time of the queue's clock.
+    pub(super) fn due_at(self, due: u64) -> Submission<T> {
+        Submission {
+            due: Some(due),
+            ..self
+        }
+    }
+}
+
 /// The requests of a queue, their values, and those who wait. No code of the caller runs while it
 /// is locked.
 pub(super) struct State<T> {
