@@ -4,7 +4,7 @@ use std::collections::HashMap;
 use std::sync::atomic::{AtomicU8, Ordering::SeqCst};
 use std::sync::mpsc;
 use std::thread;
-use std::time::Duration;
+use std::time::{Duration, Instant};
 
 fn goes_anywhere<T: Send + 'static>() {}
 fn is_shared<T: Sync + 'static>() {}
@@ -236,4 +236,33 @@ fn threads_share_one_pass() {
     assert!(out.iter().all(|out| out.load(SeqCst) == 1));
     drop(pass);
     assert!(queue.close().unwrap().is_empty());
+}
+
+#[test]
+fn what_is_submitted_through_an_owned_pass_stands_where_it_is_to() {
+    let queue = queue_of(4, 1);
+    let pass = queue.owned_pass().unwrap();
+    pass.submit(1, 0, Place::Back).unwrap();
+    let long = Duration::from_secs(60);
+    pass.submit_timeout(2, 0, Place::Front, long).unwrap();
+    let due = Instant::now() + long;
+    pass.submit_until(3, 0, Place::Front, due).unwrap();
+    pass.submit(4, 0, Place::Back).unwrap();
+    assert_eq!(pass.drain(Peek::File(0)), Ok(vec![3, 2, 1, 4]));
+}
+
+#[test]
+fn requests_of_several_queues_are_completed_each_in_its_own() {
+    let queues = [queue_of(3, 1), queue_of(3, 1)];
+    let passes = [0, 1].map(|at: usize| queues[at].owned_pass().unwrap());
+    let requests = [0, 1, 1, 0].map(|at: usize| {
+        passes[at].submit(at, 0, Place::Back).unwrap();
+        passes[at].recv(Peek::Any).unwrap()
+    });
+    let ids: Vec<_> = requests.iter().map(OwnedRequest::id).collect();
+    let values = OwnedRequest::complete_all(Vec::from(requests));
+    assert_eq!(values, [0, 1, 1, 0]);
+    for (at, id) in values.into_iter().zip(ids) {
+        assert_eq!(passes[at].cancel(id), Err(Missed::Completed));
+    }
 }
