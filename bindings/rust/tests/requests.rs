@@ -172,6 +172,24 @@ fn a_cleanup_hands_over_what_is_listed() {
 }
 
 #[test]
+fn no_number_of_a_file_object_stands_for_any() {
+    for size in sizes(2, 2) {
+        let queue = Requests::new(&size).unwrap();
+        let pass = queue.pass().unwrap();
+        pass.submit(1, 0, Place::Back).unwrap();
+        for file in [2, u32::MAX] {
+            let refused = cause(pass.submit(2, file, Place::Back));
+            assert_eq!(refused, SubmitError::UnknownFile);
+            assert!(pass.next(Peek::File(file)).is_none());
+            assert_eq!(pass.drain(Peek::File(file)), Err(UnknownFile));
+            assert_eq!(pass.cleanup(file), Err(UnknownFile));
+            assert_eq!(queue.file_len(file), Err(UnknownFile));
+        }
+        assert_eq!(pass.drain(Peek::Any), Ok(vec![1]));
+    }
+}
+
+#[test]
 fn a_close_hands_over_what_is_left() {
     for size in sizes(4, 2) {
         let queue = Requests::new(&size).unwrap();
