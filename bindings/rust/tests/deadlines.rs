@@ -43,6 +43,30 @@ fn a_clock_looks_again_if_an_earlier_deadline_comes() {
 }
 
 #[test]
+fn a_shutdown_ends_all_clocks() {
+    let queue = Requests::new(&Size::new(1, 1, 1)).unwrap();
+    let pass = queue.owned_pass().unwrap();
+    let clocks = [clock(&pass), clock(&pass)];
+    thread::sleep(Duration::from_millis(20));
+    pass.shutdown();
+    until(|| clocks.iter().all(thread::JoinHandle::is_finished));
+}
+
+#[test]
+fn a_submit_waits_without_a_limit_for_a_time_that_no_clock_reaches() {
+    let queue = Requests::new(&Size::new(1, 1, 1)).unwrap();
+    let pass = queue.owned_pass().unwrap();
+    pass.submit(1, 0, Place::Back).unwrap();
+    let waits = thread::spawn({
+        let pass = pass.clone();
+        move || pass.submit_timeout(2, 0, Place::Back, Duration::MAX)
+    });
+    thread::sleep(Duration::from_millis(20));
+    assert_eq!(pass.recv(Peek::Any).unwrap().complete(), 1);
+    assert!(waits.join().unwrap().is_ok());
+}
+
+#[test]
 fn a_submit_waits_for_room_and_ends_with_the_queue() {
     let queue = Requests::new(&Size::new(1, 1, 2)).unwrap();
     let pass = queue.owned_pass().unwrap();
@@ -68,15 +92,19 @@ fn a_submit_waits_for_room_and_ends_with_the_queue() {
 
 #[test]
 fn what_was_forgotten_ends_with_its_queue() {
-    let queue = Requests::new(&Size::new(3, 1, 1)).unwrap();
-    let pass = queue.pass().unwrap();
-    for value in 0..3 {
-        pass.submit(value, 0, Place::Back).unwrap();
+    for forgotten in 1..3 {
+        let queue = Requests::new(&Size::new(3, 1, 1)).unwrap();
+        let pass = queue.pass().unwrap();
+        for value in 0..3 {
+            pass.submit(value, 0, Place::Back).unwrap();
+        }
+        for _ in 0..forgotten {
+            std::mem::forget(pass.next(Peek::Any));
+        }
+        drop(pass);
+        let left: Vec<u32> = (forgotten..3).collect();
+        assert_eq!(queue.close().unwrap(), left);
     }
-    std::mem::forget(pass.next(Peek::Any));
-    std::mem::forget(pass.next(Peek::Any));
-    drop(pass);
-    assert_eq!(queue.close().unwrap(), [2]);
 }
 
 /// Submitters wait for room, workers take batches and put back, some requests are due or cancelled:

@@ -518,3 +518,20 @@ fn a_batch_leaves_their_share_to_those_who_wait() {
     assert_eq!(pass.recv_many(Peek::Any, 3).unwrap().len(), 3);
     assert_eq!(pass.recv_many(Peek::Any, 3).unwrap().len(), 1);
 }
+
+#[test]
+fn a_share_is_rounded_down_and_of_those_who_wait_for_the_same() {
+    for peek in [Peek::Any, Peek::File(0)] {
+        let (_queue, pass) = queue_of(8);
+        let mut sleepers = [(); 3].map(|()| Task::of(pass.recv_async(peek)));
+        for sleeper in &mut sleepers {
+            assert!(sleeper.poll().is_pending());
+        }
+        for value in 0..2 {
+            pass.submit(value, 0, Place::Back).unwrap();
+        }
+        // Two were woken, and one sleeps: the one after the first one is left to it.
+        let batch = pass.recv_many(peek, 9).unwrap();
+        assert_eq!(OwnedRequest::complete_all(batch), [0]);
+    }
+}
