@@ -350,8 +350,9 @@ refusal!(SubmitError {
 });
 
 impl SubmitError {
-    /// Whether a later submit may be accepted.
-    pub(crate) fn is_want_of_room(self) -> bool {
+    /// Whether there was no room, so that a later submit may be accepted: `NoIrp`, `FileFull` and
+    /// `Full`.
+    pub fn is_want_of_room(self) -> bool {
         matches!(
             self,
             SubmitError::NoIrp | SubmitError::FileFull | SubmitError::Full
@@ -486,7 +487,7 @@ pub enum Missed {
     Completed,
     /// Somebody else has the request. Whoever took it learns of the cancel
     /// ([`Request::is_cancelled`](crate::Request::is_cancelled)), also by a put-back
-    /// ([`PutBack::Cancelled`](crate::PutBack::Cancelled)), unless another cancel gets it then.
+    /// ([`PutBack::Cancelled`](crate::PutBack::Cancelled)).
     Taken,
 }
 

@@ -1,45 +1,14 @@
 //! Futures of requests, by tasks that are polled by hand and by a thread.
 #![cfg(feature = "async")]
+mod tasks;
+
 use csq::*;
 use std::future::Future;
-use std::pin::Pin;
-use std::sync::atomic::{AtomicU32, Ordering::SeqCst};
 use std::sync::Arc;
 use std::task::{Context, Poll, Wake, Waker};
 use std::thread::{self, Thread};
-use std::time::{Duration, Instant};
-
-/// How often a task was woken.
-#[derive(Default)]
-struct Wakes(AtomicU32);
-
-impl Wake for Wakes {
-    fn wake(self: Arc<Self>) {
-        self.0.fetch_add(1, SeqCst);
-    }
-}
-
-/// A future with the wakes of its task.
-struct Task<F> {
-    future: F,
-    wakes: Arc<Wakes>,
-}
-
-impl<F: Future + Unpin> Task<F> {
-    fn of(future: F) -> Task<F> {
-        let wakes = Arc::default();
-        Task { future, wakes }
-    }
-
-    fn poll(&mut self) -> Poll<F::Output> {
-        let waker = Waker::from(Arc::clone(&self.wakes));
-        Pin::new(&mut self.future).poll(&mut Context::from_waker(&waker))
-    }
-
-    fn wakes(&self) -> u32 {
-        self.wakes.0.load(SeqCst)
-    }
-}
+use std::time::Duration;
+use tasks::{queue_of, value, Task};
 
 struct Unpark(Thread);
 
@@ -61,19 +30,6 @@ fn block_on<F: Future>(future: F) -> F::Output {
     }
 }
 
-fn queue_of<T>(irps: u32) -> (Requests<T>, OwnedPass<T>) {
-    let queue = Requests::new(&Size::new(irps, 2, 2)).unwrap();
-    let pass = queue.owned_pass().unwrap();
-    (queue, pass)
-}
-
-fn value<T>(polled: Poll<Result<OwnedRequest<T>, RecvError>>) -> Option<T> {
-    match polled {
-        Poll::Ready(request) => request.ok().map(OwnedRequest::complete),
-        Poll::Pending => None,
-    }
-}
-
 fn goes_anywhere<T: Send + 'static>(_: &T) {}
 
 #[test]
@@ -81,13 +37,6 @@ fn goes_anywhere<T: Send + 'static>(_: &T) {}
 fn a_future_of_a_file_object_that_there_is_not_panics() {
     let queue: Requests<u32> = Requests::new(&Size::new(2, 2, 1)).unwrap();
     drop(queue.owned_pass().unwrap().recv_async(Peek::File(2)));
-}
-
-#[test]
-#[should_panic(expected = "there is no such file object")]
-fn a_drain_of_a_file_object_that_there_is_not_panics() {
-    let queue: Requests<u32> = Requests::new(&Size::new(2, 2, 1)).unwrap();
-    drop(queue.owned_pass().unwrap().drain_async(Peek::File(2)));
 }
 
 #[test]
@@ -197,167 +146,6 @@ fn a_future_that_is_dropped_leaves_no_waker() {
     let wakes = [Arc::clone(&next.wakes), Arc::clone(&cancelled.wakes)];
     drop((next, cancelled));
     assert_eq!(wakes.map(|wakes| Arc::strong_count(&wakes)), [1, 1]);
-}
-
-#[test]
-fn a_drain_ends_what_is_listed_and_waits_for_what_is_taken() {
-    for peek in [Peek::Any, Peek::File(0)] {
-        let (_queue, pass) = queue_of(4);
-        for value in 1..=3 {
-            pass.submit(value, 0, Place::Back).unwrap();
-        }
-        let [first, second] = [(); 2].map(|()| pass.try_recv(Peek::Any).unwrap());
-        let mut drains = [peek, peek].map(|peek| Task::of(pass.drain_async(peek)));
-        for drain in &mut drains {
-            assert!(drain.poll().is_pending());
-        }
-        assert_eq!(first.complete(), 1);
-        for drain in &mut drains {
-            assert_eq!((drain.wakes(), drain.poll()), (0, Poll::Pending));
-        }
-        assert_eq!(second.put_back(Place::Back).unwrap(), PutBack::Pending);
-        let wakes = [0, 1].map(|at: usize| drains[at].wakes());
-        let ends = drains.map(|mut drain| drain.poll());
-        assert_eq!(wakes, [1, 1]);
-        assert_eq!(ends, [Poll::Ready(vec![3, 2]), Poll::Ready(vec![])]);
-    }
-}
-
-#[test]
-fn the_last_end_wakes_all_drains() {
-    for peek in [Peek::Any, Peek::File(0)] {
-        let (_queue, pass) = queue_of(4);
-        pass.submit(1, 0, Place::Back).unwrap();
-        let request = pass.try_recv(Peek::Any).unwrap();
-        let mut drains = [peek, peek].map(|peek| Task::of(pass.drain_async(peek)));
-        for drain in &mut drains {
-            assert!(drain.poll().is_pending());
-        }
-        assert_eq!(request.complete(), 1);
-        for drain in &mut drains {
-            assert_eq!((drain.wakes(), drain.poll()), (1, Poll::Ready(vec![])));
-        }
-    }
-}
-
-#[test]
-fn a_drain_keeps_the_last_waker_and_leaves_none() {
-    let (_queue, pass) = queue_of(2);
-    pass.submit(1, 0, Place::Back).unwrap();
-    let request = pass.try_recv(Peek::Any).unwrap();
-    let mut drain = Task::of(pass.drain_async(Peek::Any));
-    assert!(drain.poll().is_pending());
-    let before = std::mem::take(&mut drain.wakes);
-    assert!(drain.poll().is_pending());
-    assert_eq!(Arc::strong_count(&before), 1);
-    let wakes = Arc::clone(&drain.wakes);
-    drop(drain);
-    assert_eq!(Arc::strong_count(&wakes), 1);
-    assert_eq!(request.complete(), 1);
-}
-
-#[test]
-fn a_cleanup_wakes_all_who_wait_for_room_in_its_file_object() {
-    let queue = Requests::with_file_limits(&Size::new(4, 2, 1), &[1, 1]).unwrap();
-    let pass = queue.owned_pass().unwrap();
-    for file in [0, 1] {
-        pass.submit(1, file, Place::Back).unwrap();
-    }
-    let mut tasks = [1, 1, 1, 0].map(|file| Task::of(pass.submit_async(2, file, Place::Back)));
-    for task in &mut tasks {
-        assert!(task.poll().is_pending());
-    }
-    assert_eq!(pass.cleanup(1), Ok(vec![1]));
-    let wakes: Vec<u32> = tasks.iter().map(Task::wakes).collect();
-    assert_eq!(wakes, [1, 1, 1, 0]);
-    for task in &mut tasks[..3] {
-        let refused = match task.poll() {
-            Poll::Ready(ended) => ended.unwrap_err(),
-            Poll::Pending => panic!("it waits for a file object that is closed"),
-        };
-        assert_eq!(refused.cause, SubmitError::FileClosed);
-    }
-    assert!(tasks[3].poll().is_pending());
-}
-
-#[test]
-fn room_is_passed_on_to_one_who_waits_for_the_same() {
-    let size = Size {
-        limit: 2,
-        ..Size::new(4, 2, 1)
-    };
-    let queue = Requests::with_file_limits(&size, &[1, 2]).unwrap();
-    let pass = queue.owned_pass().unwrap();
-    for file in [0, 1] {
-        pass.submit(1, file, Place::Back).unwrap();
-    }
-    // Two find their file object full, and one the list.
-    let tasks = [0, 0, 1].map(|file| {
-        let mut task = Task::of(pass.submit_async(2, file, Place::Back));
-        assert!(task.poll().is_pending());
-        task
-    });
-    let [first, mut second, other] = tasks;
-    let taken = pass.try_recv(Peek::File(0)).unwrap();
-    assert_eq!((first.wakes(), second.wakes(), other.wakes()), (1, 0, 1));
-    drop(first);
-    assert_eq!((second.wakes(), other.wakes()), (1, 1));
-    assert!(matches!(second.poll(), Poll::Ready(Ok(_))));
-    assert_eq!(taken.complete(), 1);
-}
-
-#[test]
-fn a_put_back_that_ends_a_cancelled_request_wakes_for_room_and_quiet() {
-    let (_queue, pass) = queue_of(1);
-    let id = pass.submit(1, 0, Place::Back).unwrap();
-    let request = pass.try_recv(Peek::Any).unwrap();
-    let mut submit = Task::of(pass.submit_async(2, 0, Place::Back));
-    let mut drain = Task::of(pass.drain_async(Peek::File(0)));
-    assert!(submit.poll().is_pending() && drain.poll().is_pending());
-    assert_eq!(pass.cancel(id), Err(Missed::Taken));
-    assert_eq!((submit.wakes(), drain.wakes()), (0, 0));
-    let put_back = request.put_back(Place::Back).unwrap();
-    assert_eq!(put_back, PutBack::Cancelled(1));
-    assert_eq!((submit.wakes(), drain.wakes()), (1, 1));
-    assert_eq!(drain.poll(), Poll::Ready(vec![]));
-    assert!(matches!(submit.poll(), Poll::Ready(Ok(_))));
-}
-
-#[test]
-fn a_submit_of_a_task_stands_where_it_is_to() {
-    let (_queue, pass) = queue_of(3);
-    for (value, place) in [(1, Place::Back), (2, Place::Front), (3, Place::Back)] {
-        let mut task = Task::of(pass.submit_async(value, 0, place));
-        assert!(matches!(task.poll(), Poll::Ready(Ok(_))));
-    }
-    assert_eq!(pass.drain(Peek::Any).unwrap(), [2, 1, 3]);
-}
-
-/// A task that submits a value as it is woken.
-struct Submits(OwnedPass<u32>);
-
-impl Wake for Submits {
-    fn wake(self: Arc<Self>) {
-        let late = self.0.submit(9, 0, Place::Back);
-        assert_eq!(late.unwrap_err().cause, SubmitError::FileClosed);
-    }
-}
-
-#[test]
-fn a_cleanup_closes_the_file_object_before_it_ends_what_is_listed() {
-    for owned in [true, false] {
-        let (queue, pass) = queue_of(1);
-        pass.submit(1, 0, Place::Back).unwrap();
-        let waker = Waker::from(Arc::new(Submits(pass.clone())));
-        let mut waits = Box::pin(pass.submit_async(2, 1, Place::Back));
-        let mut context = Context::from_waker(&waker);
-        assert!(waits.as_mut().poll(&mut context).is_pending());
-        let values = match owned {
-            true => pass.cleanup(0),
-            false => queue.pass().unwrap().cleanup(0),
-        };
-        assert_eq!(values, Ok(vec![1]));
-    }
 }
 
 #[test]
@@ -474,64 +262,4 @@ fn the_future_of_a_completed_request_does_not_end_by_the_next_ones_cancel() {
     assert_eq!(pass.cancel(next), Err(Missed::Taken));
     assert!(cancelled.poll().is_pending());
     again.complete();
-}
-
-#[test]
-fn the_holder_of_a_request_learns_that_it_is_due() {
-    let (_queue, pass) = queue_of(2);
-    let due = Instant::now();
-    pass.submit_until(1, 0, Place::Back, due).unwrap();
-    let request = pass.recv(Peek::Any).unwrap();
-    let mut cancelled = Task::of(request.cancelled());
-    assert!(cancelled.poll().is_pending());
-    let later = due + Duration::from_millis(1);
-    assert_eq!(pass.cancel_due(later), (Vec::new(), None));
-    assert!(cancelled.wakes() == 1 && cancelled.poll().is_ready());
-    assert_eq!(request.cancelled_by(), Some(CancelledBy::Deadline));
-    assert_eq!(
-        request.put_back(Place::Back).unwrap(),
-        PutBack::Cancelled(1)
-    );
-}
-
-#[test]
-fn a_batch_leaves_their_share_to_those_who_wait() {
-    let (_queue, pass) = queue_of(8);
-    let mut sleepers = [(); 4].map(|()| Task::of(pass.recv_async(Peek::Any)));
-    for sleeper in &mut sleepers {
-        assert!(sleeper.poll().is_pending());
-    }
-    for value in 0..3 {
-        pass.submit(value, 0, Place::Back).unwrap();
-    }
-    // Three were woken, and one sleeps: of the two after the first one is left to it.
-    let batch = pass.recv_many(Peek::Any, 9).unwrap();
-    assert_eq!(OwnedRequest::complete_all(batch), [0, 1]);
-    // Those who wait for something else have no share.
-    drop(sleepers);
-    drop(pass.drain(Peek::Any));
-    let mut other = Task::of(pass.recv_async(Peek::File(0)));
-    assert!(other.poll().is_pending());
-    for value in 0..4 {
-        pass.submit(value, 0, Place::Back).unwrap();
-    }
-    assert_eq!(pass.recv_many(Peek::Any, 3).unwrap().len(), 3);
-    assert_eq!(pass.recv_many(Peek::Any, 3).unwrap().len(), 1);
-}
-
-#[test]
-fn a_share_is_rounded_down_and_of_those_who_wait_for_the_same() {
-    for peek in [Peek::Any, Peek::File(0)] {
-        let (_queue, pass) = queue_of(8);
-        let mut sleepers = [(); 3].map(|()| Task::of(pass.recv_async(peek)));
-        for sleeper in &mut sleepers {
-            assert!(sleeper.poll().is_pending());
-        }
-        for value in 0..2 {
-            pass.submit(value, 0, Place::Back).unwrap();
-        }
-        // Two were woken, and one sleeps: the one after the first one is left to it.
-        let batch = pass.recv_many(peek, 9).unwrap();
-        assert_eq!(OwnedRequest::complete_all(batch), [0]);
-    }
 }

@@ -14,6 +14,7 @@ use std::fmt;
 use std::future::Future;
 use std::pin::Pin;
 use std::task::{Context, Poll};
+use std::time::Instant;
 
 /// The next request, once there is one ([`OwnedPass::recv_async`]). Dropped before, it takes none:
 /// one that came for it wakes the next who waits for the same.
@@ -131,6 +132,30 @@ impl<T> SubmitFuture<T> {
             it: Some(it),
             ticket: None,
         }
+    }
+}
+
+impl<T> SubmitFuture<T> {
+    /// The same with a deadline, as that of
+    /// [`RequestPass::submit_until`](crate::RequestPass::submit_until), from when it is listed on.
+    /// A wait for room goes on when it is over.
+    ///
+    /// ```
+    /// # use csq::*;
+    /// # let queue = Requests::new(&Size::new(4, 2, 2))?;
+    /// # let pass = queue.owned_pass()?;
+    /// # use std::time::{Duration, Instant};
+    /// async fn send(pass: OwnedPass<u32>, due: Instant) -> Result<RequestId, Refused<u32>> {
+    ///     pass.submit_async(1, 0, Place::Back).until(due).await
+    /// }
+    /// # drop(send(pass, Instant::now() + Duration::from_secs(1)));
+    /// # let _queue: Requests<u32> = queue;
+    /// # Ok::<(), Box<dyn std::error::Error>>(())
+    /// ```
+    pub fn until(mut self, due: Instant) -> SubmitFuture<T> {
+        let due = self.pass.shared().due_at(due);
+        self.it = self.it.take().map(|it| it.due_at(due));
+        self
     }
 }
 

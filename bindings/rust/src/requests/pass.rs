@@ -136,8 +136,8 @@ impl<T> RequestPass<T> {
 
     /// [`RequestPass::submit`] with a deadline: when it is over, the request is cancelled, once
     /// somebody looks for it ([`OwnedPass::cancel_due`](crate::OwnedPass::cancel_due),
-    /// [`OwnedPass::recv_due`](crate::OwnedPass::recv_due)). A deadline is kept to the millisecond
-    /// after it.
+    /// [`OwnedPass::recv_due`](crate::OwnedPass::recv_due)). It is never cancelled before, and at
+    /// most a millisecond after it is over by the first look then.
     ///
     /// # Errors
     ///
@@ -259,7 +259,7 @@ impl<T> RequestPass<T> {
 
     /// Takes a first request as [`RequestPass::recv`] does, and then more under one lock: at most
     /// `most`, and at most its fair share, which is what is listed divided among this worker and
-    /// those who wait for the same.
+    /// those who wait for the same and weren't woken yet.
     ///
     /// # Errors
     ///

@@ -131,12 +131,15 @@ impl<'pass, T> Request<'pass, T> {
 
     /// Puts the request back into the list with its value, for the file object that it was
     /// submitted for: for a worker that can't serve it now. It keeps its name. One that a cancel
-    /// named in the meantime is completed with `STATUS_CANCELLED`, and its value handed over. A
-    /// refusal hands the request back. Takes the lock.
+    /// named in the meantime is completed with `STATUS_CANCELLED`, and its value handed over. Takes
+    /// the lock.
     ///
     /// # Errors
     ///
-    /// [`NotPutBack`], which hands the request back with its cause.
+    /// [`NotPutBack`], which hands the request back with its cause. That is tested before the
+    /// cancel: a worker that tries again looks at [`Request::is_cancelled`] too. No put-back is
+    /// refused as [`Full`](crate::PutBackError::Full) if [`Size::limit`](crate::Size::limit) is
+    /// [`Size::irps`](crate::Size::irps).
     ///
     /// ```
     /// # fn main() -> Result<(), Box<dyn std::error::Error>> {
@@ -162,7 +165,7 @@ impl<'pass, T> Request<'pass, T> {
 #[must_use = "a request that was cancelled in the meantime hands its value over"]
 #[derive(Clone, Copy, Debug, PartialEq, Eq)]
 pub enum PutBack<T> {
-    /// It is listed again, with its value; or a cancel, perhaps a second one, has it already.
+    /// It is listed again, with its value.
     Pending,
     /// A cancel had named it in the meantime ([`Missed::Taken`](crate::Missed::Taken)): it is
     /// completed with `STATUS_CANCELLED`, and this is its value.

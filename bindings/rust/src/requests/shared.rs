@@ -57,7 +57,7 @@ impl<T> Shared<T> {
         if !state.waiting.woken.is_empty() {
             let woken = mem::take(&mut state.waiting.woken);
             drop(state);
-            woken.into_iter().for_each(Waker::wake);
+            wake_all(woken);
         }
         result
     }
@@ -137,12 +137,13 @@ impl<T> Shared<T> {
         &self,
         it: &mut Option<Submission<T>>,
         ticket: &mut Option<RoomTicket>,
-        waker: Option<Waker>,
+        mut waker: Option<Waker>,
     ) -> Poll<Result<RequestId, Unlisted<T>>> {
         let submission = it.take().expect("the value until it is submitted");
-        // What is stale is dropped once the lock is free.
+        // A waker that isn't used, or no more, is dropped once the lock is free.
         let (polled, _stale) = self.with(|state| {
-            let (stale, woken_for) = leave_room(state, ticket);
+            let had = ticket.take();
+            let (stale, woken_for) = leave_room(state, had);
             let (submission, cause) = match state.submit(submission) {
                 Ok(irp) => return (Poll::Ready(Ok(self.id(irp))), stale),
                 Err(refused) => refused,
@@ -152,13 +153,14 @@ impl<T> Shared<T> {
             if let Some(other) = woken_for.filter(|it| waker.is_none() || room != Some(*it)) {
                 state.waiting.pass_room_on(other);
             }
-            match (room, waker) {
-                (Some(room), Some(waker)) => {
+            match room.and_then(|room| Some((room, waker.take()?))) {
+                Some((room, waker)) => {
                     *it = Some(submission);
-                    *ticket = Some((room, state.waiting.room.add(room, waker)));
+                    let had = had.map(|(_, place)| place);
+                    *ticket = Some((room, state.waiting.room.add(room, had, waker)));
                     (Poll::Pending, stale)
                 }
-                _ => (Poll::Ready(Err((submission, cause))), stale),
+                None => (Poll::Ready(Err((submission, cause))), stale),
             }
         });
         polled
@@ -168,7 +170,7 @@ impl<T> Shared<T> {
     #[cfg(feature = "async")]
     pub(super) fn give_room_up(&self, ticket: RoomTicket) {
         let _stale = self.with(|state| {
-            let (stale, woken_for) = leave_room(state, &mut Some(ticket));
+            let (stale, woken_for) = leave_room(state, Some(ticket));
             if let Some(room) = woken_for {
                 state.waiting.pass_room_on(room);
             }
@@ -196,14 +198,17 @@ impl<T> Shared<T> {
         ticket: &mut Option<Ticket>,
         waker: Waker,
     ) -> Poll<Option<(Held, T)>> {
-        // What is stale is dropped once the lock is free.
+        let mut waker = Some(waker);
+        // A waker that isn't used, or no more, is dropped once the lock is free.
         let (polled, _stale) = self.with(|state| {
-            let stale = leave(state, peek, ticket);
+            let had = ticket.take();
+            let stale = leave(state, peek, had);
             let taken = state.take(peek);
             if taken.is_some() || state.waiting.ended {
                 return (Poll::Ready(taken), stale);
             }
-            *ticket = Some(state.waiting.listed.add(file_of(peek), waker));
+            let listed = &mut state.waiting.listed;
+            *ticket = waker.take().map(|it| listed.add(file_of(peek), had, it));
             (Poll::Pending, stale)
         });
         polled
@@ -271,10 +276,10 @@ impl<T> Shared<T> {
     fn take_at_last(
         &self,
         peek: Peek,
-        mut ticket: Option<Ticket>,
+        ticket: Option<Ticket>,
     ) -> Result<(Held, T), RecvTimeoutError> {
         let (taken, _stale) = self.with(|state| {
-            let stale = leave(state, peek, &mut ticket);
+            let stale = leave(state, peek, ticket);
             (state.take(peek), stale)
         });
         taken.ok_or(RecvTimeoutError::Timeout)
@@ -323,15 +328,16 @@ impl<T> Shared<T> {
         ticket: &mut Option<Ticket>,
         waker: Waker,
     ) -> Poll<()> {
-        let old = ticket.take();
-        // What is stale is dropped once the lock is free.
+        let (had, mut waker) = (ticket.take(), Some(waker));
+        // A waker that isn't used, or no more, is dropped once the lock is free.
         let (polled, _stale) = self.with(|state| {
             let cancels = &mut state.waiting.cancel;
-            let stale = old.and_then(|it| cancels.remove(request.irp, it));
+            let stale = had.and_then(|it| cancels.remove(request.irp, it));
             if state.named(request.irp).is_some() {
                 return (Poll::Ready(()), stale);
             }
-            *ticket = Some(state.waiting.cancel.add(request.irp, waker));
+            let cancels = &mut state.waiting.cancel;
+            *ticket = waker.take().map(|it| cancels.add(request.irp, had, it));
             (Poll::Pending, stale)
         });
         polled
@@ -390,16 +396,17 @@ impl<T> Shared<T> {
         ticket: &mut Option<Ticket>,
         waker: Waker,
     ) -> Poll<()> {
-        let (old, file) = (ticket.take(), file_of(peek));
-        // What is stale is dropped once the lock is free.
+        let (had, mut waker, file) = (ticket.take(), Some(waker), file_of(peek));
+        // A waker that isn't used, or no more, is dropped once the lock is free.
         let (polled, _stale) = self.with(|state| {
-            let stale = old.and_then(|it| state.waiting.quiet.remove(file, it));
+            let stale = had.and_then(|it| state.waiting.quiet.remove(file, it));
             values.extend(std::iter::from_fn(|| state.end_next(peek, Why::Drain)));
             let counts = state.counts(peek);
             if counts.map_or(true, |counts| counts.under_way == 0) {
                 return (Poll::Ready(()), stale);
             }
-            *ticket = Some(state.waiting.quiet.add(file, waker));
+            let quiet = &mut state.waiting.quiet;
+            *ticket = waker.take().map(|it| quiet.add(file, had, it));
             (Poll::Pending, stale)
         });
         polled
@@ -425,12 +432,12 @@ impl<T> Shared<T> {
     pub(super) fn wait_due(&self) -> Option<Vec<T>> {
         let mut ticket: Option<Ticket> = None;
         loop {
-            let (now, waker, old) = (Instant::now(), thread_waker(), ticket.take());
+            let (now, waker, had) = (Instant::now(), thread_waker(), ticket.take());
             let (values, next, ended, _stale) = self.with(|state| {
-                let stale = old.and_then(|it| state.waiting.clock.remove((), it));
+                let stale = had.and_then(|it| state.waiting.clock.remove((), it));
                 let (values, next) = (state.end_due(self.now(now)), state.next_due());
                 let ended = next.is_none() && state.waiting.ended;
-                ticket = Some(state.waiting.clock.add((), waker));
+                ticket = Some(state.waiting.clock.add((), had, waker));
                 (values, next, ended, stale)
             });
             if ended || !values.is_empty() {
@@ -445,6 +452,20 @@ impl<T> Shared<T> {
     }
 }
 
+// Wakes all of these, also if one panics. (If two do, the program ends.)
+fn wake_all(woken: Vec<Waker>) {
+    struct Rest(std::vec::IntoIter<Waker>);
+
+    impl Drop for Rest {
+        fn drop(&mut self) {
+            self.0.by_ref().for_each(Waker::wake);
+        }
+    }
+
+    let mut rest = Rest(woken.into_iter());
+    rest.0.by_ref().for_each(Waker::wake);
+}
+
 // The room that a submit waits for which is refused so.
 fn room_of(cause: SubmitError, file: u32) -> Option<Option<u32>> {
     match cause {
@@ -455,16 +476,16 @@ fn room_of(cause: SubmitError, file: u32) -> Option<Option<u32>> {
 }
 
 // Takes out who waits for this with this ticket, unless it was woken.
-fn leave<T>(state: &mut State<T>, peek: Peek, ticket: &mut Option<Ticket>) -> Option<Waker> {
-    state.waiting.listed.remove(file_of(peek), ticket.take()?)
+fn leave<T>(state: &mut State<T>, peek: Peek, ticket: Option<Ticket>) -> Option<Waker> {
+    state.waiting.listed.remove(file_of(peek), ticket?)
 }
 
 // The same of one who waits for room; and the room that it was woken for.
 fn leave_room<T>(
     state: &mut State<T>,
-    ticket: &mut Option<RoomTicket>,
+    ticket: Option<RoomTicket>,
 ) -> (Option<Waker>, Option<Option<u32>>) {
-    match ticket.take() {
+    match ticket {
         None => (None, None),
         Some((room, ticket)) => match state.waiting.room.remove(room, ticket) {
             None => (None, Some(room)),

@@ -17,9 +17,11 @@ impl Ticket {
 }
 
 /// Those who wait for events of one kind, for each event the first of them first. No call but
-/// `take_all` looks through all of them.
+/// `take_all` looks through all of them, and none but `count` and `take_those` through all that
+/// wait for one event.
 ///
-/// One that waits has found nothing, and is taken out when it is woken. Each event wakes one of
+/// One that waits has found nothing, and is taken out when it is woken. Its ticket is its place: if
+/// it looks again and finds nothing, it waits where it did. Each event wakes one of
 /// those who wait for just it. So as long as any waits for an event, at least as many were woken
 /// and have not looked yet as there is for them. One that is woken and makes no use of it has to
 /// pass it on.
@@ -38,10 +40,12 @@ impl<K> Default for Waiters<K> {
 }
 
 impl<K: Ord + Copy> Waiters<K> {
-    /// Adds one who waits for this.
-    pub(crate) fn add(&mut self, event: K, waker: Waker) -> Ticket {
-        self.tickets += 1;
-        let ticket = Ticket(self.tickets);
+    /// Adds one who waits for this: in the place of the ticket that it had, or as the last.
+    pub(crate) fn add(&mut self, event: K, had: Option<Ticket>, waker: Waker) -> Ticket {
+        let ticket = had.unwrap_or_else(|| {
+            self.tickets += 1;
+            Ticket(self.tickets)
+        });
         self.wakers.insert((event, ticket), waker);
         ticket
     }
@@ -149,8 +153,8 @@ impl Waiting {
         if !self.quiet.is_empty() {
             self.wake_quiet(ended);
         }
-        if !self.clock.is_empty() {
-            // It may have been the one that was due next.
+        if self.ended && !self.clock.is_empty() {
+            // It may have been the last one with a time.
             self.wake_clocks();
         }
     }
@@ -234,7 +238,7 @@ mod tests {
     fn add<K: Ord + Copy, const N: usize>(waiters: &mut Waiters<K>, events: [K; N]) -> Counted<N> {
         events.map(|event| {
             let count = Arc::<Count>::default();
-            (waiters.add(event, Arc::clone(&count).into()), count)
+            (waiters.add(event, None, Arc::clone(&count).into()), count)
         })
     }
 
