@@ -160,10 +160,12 @@ CSQ_NODISCARD uint32_t csq_requests_free(struct csq_requests **requests);
 /* ---- Submits ---- */
 
 /* Submits a value for a file object, at the list's end, or at its front if `front` isn't 0, and
- * wakes one who waits for it. Stores the request's name before anybody can take it, so *name may be
- * a part of what `value` points to (and may be gone with it when this returns, if a worker has it
- * by then). After a refusal the value is still the caller's. While a drain that was started for its
- * file object or for any isn't over, the request ends inside of this call, with the events.
+ * wakes one who waits for it. The value may be any pointer, also NULL. Stores the request's name
+ * before anybody can take it, so *name may be a part of what `value` points to. CSQ_OK doesn't say
+ * that it is still listed: a worker, a drain, a cancel or its deadline may have ended it by then,
+ * and value and name may be gone. While a drain that was started for its file object or for any
+ * isn't over, the request ends inside of this call, with the events. After a refusal the value is
+ * still the caller's.
  * CSQ_UNKNOWN_FILE; CSQ_CLOSED; CSQ_FILE_CLOSED; CSQ_LIVES_SPENT (each IRP is past its last life: a
  * queue has 2^30 requests for each, and then another has to be made); CSQ_FULL (all requests are
  * under way); CSQ_FILE_FULL; CSQ_FULL (as many are listed as the limit allows). */
@@ -231,13 +233,14 @@ CSQ_NODISCARD uint32_t csq_requests_complete_many(struct csq_requests *requests,
  * CSQ_UNKNOWN_IRP; CSQ_NOT_HELD (as of csq_requests_complete); CSQ_NOT_REMOVED (a put-back before
  * returned CSQ_CANCELLED); CSQ_FILE_CLOSED; CSQ_FILE_FULL; CSQ_FULL; CSQ_CANCELLED (a cancel has
  * named it in the meantime, or its time was over: it is completed with STATUS_CANCELLED alone, and
- * can't be put back). */
+ * can't be put back). If the list's limit is the number of IRPs, none is refused as CSQ_FULL. */
 CSQ_NODISCARD uint32_t csq_requests_put_back(struct csq_requests *requests,
                                              const struct csq_request *request, uint32_t front);
 
 /* What has named a request that was taken, so that nobody waits for it: CSQ_WHY_CANCEL, or
  * CSQ_WHY_DUE if its time was over first; CSQ_WHY_NONE if nothing has, and of one that isn't under
- * way any more. Of one that is ending: why it is. */
+ * way any more. Of one that is ending: why it is. No event tells of it, and a drain or a cleanup
+ * names nothing that is taken: a caller that drains tells the holder otherwise. */
 uint32_t csq_requests_is_cancelled(struct csq_requests *requests,
                                    const struct csq_request *request);
 
@@ -258,15 +261,17 @@ CSQ_NODISCARD uint32_t csq_requests_cancel_with(struct csq_requests *requests, s
 /* Cancels each request whose deadline is `now` or before: one that is listed ends, with the events
  * (CSQ_WHY_DUE), and the holder of one that is taken learns of it (csq_requests_is_cancelled).
  * Returns in how many milliseconds the next call is wanted, which is when the next one is due, or
- * CSQ_FOREVER if none is; what is submitted later may be due before. A time before that of an
- * earlier call counts as that. The clock is the caller's: csq_requests_now, or a loop's own. */
+ * CSQ_FOREVER if none is; what is submitted later may be due before. It may be more than the int
+ * of poll and epoll_wait holds. A time before that of an earlier call counts as that. The clock is
+ * the caller's: csq_requests_now, or a loop's own. */
 uint32_t csq_requests_tick(struct csq_requests *requests, uint64_t now);
 
 /* Returns the time in milliseconds by CLOCK_MONOTONIC, for deadlines. Lock: none. */
 uint64_t csq_requests_now(void);
 
 /* Starts a thread that makes the calls of csq_requests_tick in time, with csq_requests_now, so that
- * deadlines are times of that clock. It calls the events. csq_requests_free ends it.
+ * deadlines are times of that clock. It calls the events, and takes no signals.
+ * csq_requests_free ends it.
  * CSQ_NOT_EMPTY (the queue has one); CSQ_NO_MEMORY (the system has no thread). */
 CSQ_NODISCARD uint32_t csq_requests_start_clock(struct csq_requests *requests);
 
@@ -317,15 +322,17 @@ CSQ_NODISCARD uint32_t csq_requests_cleanup_start(struct csq_requests *requests,
  * for a file object, or for any with CSQ_ANY, and once the queue is closed. When none is listed any
  * more it stays readable until a csq_requests_next or csq_requests_next_many for the same returns
  * CSQ_NONE, so another edge comes only after that. (A submit of another thread may make it readable
- * for nothing then, until the next CSQ_NONE.) It is the queue's, which makes it at the first call
- * and closes it when it is freed; nobody reads or writes it. CSQ_UNKNOWN_FILE; CSQ_NO_MEMORY (the
- * kernel has none). */
+ * for nothing then, until the next CSQ_NONE.) It is the queue's, which makes it at the first call,
+ * closed by an exec and non-blocking, and closes it when it is freed; nobody reads or writes it.
+ * CSQ_UNKNOWN_FILE; CSQ_NO_MEMORY (the kernel has none). */
 CSQ_NODISCARD uint32_t csq_requests_fd(struct csq_requests *requests, uint32_t file, int *fd);
 
 /* Stores the number of an eventfd that isn't readable from a submit that returned CSQ_FILE_FULL for
  * this file object (with CSQ_ANY: one that returned CSQ_FULL) until a submit may find room again,
- * or is refused for another cause: for a loop that doesn't read from its clients meanwhile.
- * Otherwise it is as that of csq_requests_fd. CSQ_UNKNOWN_FILE; CSQ_NO_MEMORY. */
+ * or is refused for another cause: for a loop that doesn't read from its clients meanwhile. At any
+ * other time it is readable, so a loop watches it by its edges (EPOLLET), or only after a refusal.
+ * One that is made after a refusal is readable until the next one. A put-back that is refused
+ * isn't looked at. Otherwise it is as that of csq_requests_fd. CSQ_UNKNOWN_FILE; CSQ_NO_MEMORY. */
 CSQ_NODISCARD uint32_t csq_requests_room_fd(struct csq_requests *requests, uint32_t file, int *fd);
 
 /* ---- Looks ---- */

@@ -1,6 +1,8 @@
 /* csq_requests.h: the ends of requests without a worker: cancels, deadlines, drains. */
 #include "requests.h"
 
+#include <signal.h>
+
 /* ---- The events ---- */
 
 /* What runs after the completion keeps the file object, and all, from being quiet. */
@@ -126,13 +128,25 @@ static void *run_clock(void *of) {
     return NULL;
 }
 
+/* Starts the clock's thread, which takes no signals: they are for the threads of the program. */
+static int start_thread(struct csq_requests *it) {
+    sigset_t all, before;
+    sigfillset(&all);
+    int failure = pthread_sigmask(SIG_SETMASK, &all, &before);
+    if (failure == 0) {
+        failure = pthread_create(&it->thread, NULL, run_clock, it);
+        (void)pthread_sigmask(SIG_SETMASK, &before, NULL);
+    }
+    return failure;
+}
+
 uint32_t csq_requests_start_clock(struct csq_requests *it) {
     uint32_t code = CSQ_NOT_EMPTY;
     requests_lock(it);
     if (it->clock == REQUESTS_NO_CLOCK) {
         it->clock = REQUESTS_CLOCK_RUNS;
         code = CSQ_OK;
-        if (pthread_create(&it->thread, NULL, run_clock, it) != 0) {
+        if (start_thread(it) != 0) {
             it->clock = REQUESTS_NO_CLOCK;
             code = CSQ_NO_MEMORY;
         }

@@ -4,6 +4,7 @@
 
 #include <poll.h>
 #include <sched.h>
+#include <signal.h>
 #include <unistd.h>
 
 /* A submit that waits for room in a thread of its own. */
@@ -251,6 +252,24 @@ static void a_free_that_is_refused_ends_the_clock(uint32_t list) {
     IS(csq_requests_free(&requests), CSQ_OK);
 }
 
+/* A signal that comes where all other threads block it stays pending. */
+static void the_clock_takes_no_signals(uint32_t list) {
+    struct csq_requests *requests = made(2, list, NULL);
+    sigset_t one, before, pending;
+    int taken = 0;
+    sigemptyset(&one);
+    sigaddset(&one, SIGUSR1);
+    IS(csq_requests_start_clock(requests), CSQ_OK);
+    IS((unsigned)pthread_sigmask(SIG_BLOCK, &one, &before), 0);
+    IS((unsigned)kill(getpid(), SIGUSR1), 0);
+    sched_yield();
+    IS((unsigned)sigpending(&pending), 0);
+    IS((unsigned)sigismember(&pending, SIGUSR1), 1);
+    IS((unsigned)sigwait(&one, &taken), 0);
+    IS((unsigned)pthread_sigmask(SIG_SETMASK, &before, NULL), 0);
+    IS(csq_requests_free(&requests), CSQ_OK);
+}
+
 /* ---- Shares ---- */
 
 /* Those that sleep for the same get theirs. The test sets how many there are. */
@@ -311,6 +330,7 @@ int main(void) {
     RUN_BOTH(who_is_woken_and_cannot_use_it_passes_it_on);
     RUN_BOTH(the_clock_cancels_in_time);
     RUN_BOTH(a_free_that_is_refused_ends_the_clock);
+    RUN_BOTH(the_clock_takes_no_signals);
     RUN_BOTH(a_batch_leaves_the_others_share);
     return DONE();
 }
