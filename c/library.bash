@@ -42,9 +42,8 @@ csq_compile() {
   ar rcs "$archive" "${objects[@]}"
 }
 
-csq_queue_files=(bench/c/plain_{queue,judges,list}.c)
+csq_queue_files=(bench/c/plain_{queue,judges,list,ledger}.c)
 csq_layer_files=(c/requests/{calls,ends,make,wait}.c)
-csq_ledger_files=(bench/c/plain_ledger.c)
 
 # Prints the files to link, one a line, in the linker's order: csq_requests.h's code, which is compiled here and isn't proved,
 # the archive of csq.h, which is built anew where its sources have changed, and the kit's functions for the heap; and leaves a
@@ -68,17 +67,16 @@ csq_library() {
   csq_receipt "$(rt version)" "$(grep '^logic=' <<<"$said" | tail -1)" "$@" && printf '%s\n' "$@"
 }
 
-# Compiles csq_requests.h's code for the proved library, and prints the archive. The plain ledger is in it until the proved
-# library has the calls of csq_ledger.h: csq_requests_library TOP
+# Compiles csq_requests.h's code for the proved library, and prints the archive: csq_requests_library TOP
 csq_requests_library() {
   local archive=$1/crates/csq_c/out/libcsq_requests.a
-  csq_compile "$1" "$archive" "${csq_layer_files[@]}" "${csq_ledger_files[@]}" -- "${CC:-cc}" -O2 -fPIC && echo "$archive"
+  csq_compile "$1" "$archive" "${csq_layer_files[@]}" -- "${CC:-cc}" -O2 -fPIC && echo "$archive"
 }
 
-# Compiles the plain C queue of csq.h alone into an archive: csq_plain_queue TOP ARCHIVE COMPILER FLAG..
+# Compiles the plain C queue of csq.h and csq_ledger.h alone into an archive: csq_plain_queue TOP ARCHIVE COMPILER FLAG..
 csq_plain_queue() { csq_compile "$1" "$2" "${csq_queue_files[@]}" -- "${@:3}"; }
 
 # The same with csq_requests.h's code: csq_plain_library TOP ARCHIVE COMPILER FLAG..
 csq_plain_library() {
-  csq_compile "$1" "$2" "${csq_queue_files[@]}" "${csq_ledger_files[@]}" "${csq_layer_files[@]}" -- "${@:3}"
+  csq_compile "$1" "$2" "${csq_queue_files[@]}" "${csq_layer_files[@]}" -- "${@:3}"
 }

@@ -86,7 +86,7 @@ CSQ_NODISCARD uint32_t csq_ledger_new(struct csq_ledger *ledger, const struct cs
  * same codes. */
 CSQ_NODISCARD uint32_t csq_ledger_new_with_file_limits(struct csq_ledger *ledger,
                                                        const struct csq_size *size,
-                                                       const uint32_t *limits, uint32_t count);
+                                                       const uint32_t *limits, size_t count);
 
 /* Frees it. CSQ_HOLDING: requests are under way, and nothing is freed. */
 CSQ_NODISCARD uint32_t csq_ledger_free(struct csq_ledger *ledger);

@@ -76,7 +76,7 @@ static bool take_memory(struct ledger *it) {
 }
 
 static uint32_t make(struct csq_ledger *ledger, const struct csq_size *size, const uint32_t *limits,
-                     uint32_t count) {
+                     size_t count) {
     struct csq_size with_one_pass = *size;
     struct ledger *it = calloc(1, sizeof *it);
     if (!it) {
@@ -106,7 +106,7 @@ uint32_t csq_ledger_new(struct csq_ledger *ledger, const struct csq_size *size) 
 }
 
 uint32_t csq_ledger_new_with_file_limits(struct csq_ledger *ledger, const struct csq_size *size,
-                                         const uint32_t *limits, uint32_t count) {
+                                         const uint32_t *limits, size_t count) {
     return ledger->at ? (uint32_t)CSQ_NOT_EMPTY : make(ledger, size, limits, count);
 }
 

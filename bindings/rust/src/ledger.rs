@@ -103,7 +103,7 @@ impl Ledger {
     /// The same, with a limit for each file object.
     pub(crate) fn with_file_limits(size: &Size, file_limits: &[u32]) -> Result<Ledger, NewError> {
         let limits = file_limits.as_ptr();
-        let count = u32::try_from(file_limits.len()).map_err(|_| NewError::BadSize)?;
+        let count = file_limits.len();
         // SAFETY: the handle is empty, the pointers are valid, and there are this many limits.
         Ledger::made(size, |ledger| unsafe {
             raw::csq_ledger_new_with_file_limits(ledger, &size.raw(), limits, count)

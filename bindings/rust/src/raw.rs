@@ -125,7 +125,7 @@ extern "C" {
         ledger: *mut RawLedger,
         size: *const RawSize,
         limits: *const u32,
-        count: u32,
+        count: usize,
     ) -> u32;
     pub(crate) fn csq_ledger_free(ledger: *mut RawLedger) -> u32;
     pub(crate) fn csq_ledger_close(ledger: *mut RawLedger) -> u32;

@@ -3,11 +3,14 @@ use Rattle.std.specs.Prelude.{Option, Some}
 use Rattle.std.specs.Borrow.{Fml, MutBor, LendsIf}
 use Rattle.csq_checked.specs.Passes.{CheckedPassState}
 use Rattle.csq_checked.specs.contracts.pass.CheckedPass as pass
+use Rattle.csq_ledger.specs.Ledgers.{LedgerState}
+use Rattle.csq_ledger.specs.contracts.ledger.Ledger as ledger
 use Rattle.csq_c.specs.Bodies.{QueueBodyState}
 use Rattle.csq_c.specs.contracts.body.QueueBody as body
+use Rattle.csq_c.specs.contracts.handles.LedgerBox as ledger_handle
 use Rattle.csq_c.specs.contracts.handles.PassBox as pass_handle
 use Rattle.csq_c.specs.contracts.handles.QueueBox as queue_handle
-use Rattle.csq_c.specs.declared.handles.{PassBox.{PassBox}, QueueBox.{QueueBox}}
+use Rattle.csq_c.specs.declared.handles.{LedgerBox.{LedgerBox}, PassBox.{PassBox}, QueueBox.{QueueBox}}
 
 -- a queue's handle ends with what the call left of the queue, and an empty one as it was
 abbrev pub LendsQueue : MutBor QueueBox → Option (MutBor QueueBodyState) → Fml
@@ -16,3 +19,7 @@ LendsQueue h r = LendsIf queue_handle.the_row body.the_row h r (λ body. record 
 -- so does a pass's
 abbrev pub LendsPass : MutBor PassBox → Option (MutBor CheckedPassState) → Fml
 LendsPass h r = LendsIf pass_handle.the_row pass.the_row h r (λ body. record h.now { body = Some body }) h.now
+
+-- and a ledger's
+abbrev pub LendsLedger : MutBor LedgerBox → Option (MutBor LedgerState) → Fml
+LendsLedger h r = LendsIf ledger_handle.the_row ledger.the_row h r (λ body. record h.now { body = Some body }) h.now

@@ -11,3 +11,6 @@ pub mod Lefts
 pub mod Looks
 pub mod Judges
 pub mod Uses
+pub mod LedgerShapes
+pub mod LedgerCodes
+pub mod LedgerCalls

@@ -1,6 +1,7 @@
 //! The handles that C keeps.
 ghost use Rattle.std.specs.Prelude.{◌≡◌, Option};
 ghost use Rattle.csq_checked.specs.Passes.{CheckedPassState};
+ghost use Rattle.csq_ledger.specs.Ledgers.{LedgerState};
 ghost use Rattle.csq_c.specs.Bodies.{QueueBodyState};
 
 mod lent;
@@ -9,6 +10,7 @@ use crate::body::QueueBody;
 pub(crate) use crate::handles::lent::lend;
 use crate::hold::{Handle, Hold};
 use csq_checked::CheckedPass;
+use csq_ledger::Ledger;
 use std::marker::Model;
 
 /// The address of a queue, or null.
@@ -83,6 +85,42 @@ impl Handle for PassBox {
     }
 }
 
+/// The address of a ledger, or null.
+#[repr(C)]
+pub struct LedgerBox {
+    at: *mut u8,
+    pub ghost body: { Option LedgerState },
+}
+
+impl Model for LedgerBox {
+    ghost use Rattle.csq_c.specs.Holds.{held};
+    ghost use Rattle.csq_ledger.specs.contracts.ledger.Ledger.{the_row};
+
+    ghost also_owns = { λ l. held the_row l.at l.body };
+}
+
+impl Handle for LedgerBox {
+    type Body = Ledger;
+
+    ghost held_in = { λ l. l.body };
+
+    fn of(hold: Hold<Ledger>) -> LedgerBox
+        ensures { result.body ≡ hold.body }
+    {
+        let Hold { at } = hold;
+        LedgerBox { at: at as *mut u8 }
+    }
+
+    fn into_hold(self) -> Hold<Ledger>
+        ensures { result.body ≡ self.body }
+    {
+        let LedgerBox { at } = self;
+        Hold {
+            at: at as *mut Ledger,
+        }
+    }
+}
+
 /// The handle of a queue, or an empty one. C sees the address and the number.
 #[repr(C)]
 pub struct CsqQueue {
@@ -97,4 +135,10 @@ pub struct CsqPass {
     pub boxed: PassBox,
     /// The number of the queue that made the pass.
     pub queue: u64,
+}
+
+/// The handle of a ledger, or an empty one. C sees the address.
+#[repr(C)]
+pub struct CsqLedger {
+    pub boxed: LedgerBox,
 }

@@ -7,6 +7,7 @@ mod ends;
 mod handles;
 mod hold;
 mod judges;
+mod ledger;
 mod left;
 mod locked;
 mod looks;

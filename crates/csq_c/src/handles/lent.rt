@@ -1,11 +1,12 @@
 //! What stands behind a handle, lent to one call, which doesn't write the handle.
 ghost use Rattle.std.specs.Prelude.{◌≡◌, Some, None, MatchOption, ◌↔◌, false};
 ghost use Rattle.std.specs.Borrow.{sem};
-ghost use Rattle.csq_c.specs.Lends.{LendsQueue, LendsPass};
+ghost use Rattle.csq_c.specs.Lends.{LendsQueue, LendsPass, LendsLedger};
 
 use crate::body::QueueBody;
-use crate::handles::{PassBox, QueueBox};
+use crate::handles::{LedgerBox, PassBox, QueueBox};
 use csq_checked::CheckedPass;
+use csq_ledger::Ledger;
 
 /// Lends what a handle holds to one call, or ends the call with the code of an empty handle; or what the handles of
 /// a queue and of a pass hold, or ends it with that code, or with that of a pass of another queue. Own rule.
@@ -70,6 +71,33 @@ impl PassBox {
     }
 
     /// Whether there is a pass.
+    pub(crate) fn is_filled(&mut self) -> bool
+        ensures answer { result ≡ false ↔ self.old.body ≡ None }
+        ensures same { self.new.body ≡ self.old.body }
+    {
+        match self.lent() {
+            None => false,
+            Some(_) => true,
+        }
+    }
+}
+
+impl LedgerBox {
+    /// The ledger, or None if the handle is empty. Own rule.
+    pub(crate) fn lent(&mut self) -> Option<&mut Ledger>
+        ensures* writes_back { sem 𝓛 (LendsLedger self.entry result) }
+        ensures value { MatchOption result (self.old.body ≡ None)
+            (λ body. self.old.body ≡ Some body.now) }
+    {
+        let at = self.at as *mut Ledger;
+        if at.is_null() {
+            return None;
+        }
+        // SAFETY: as of a queue's handle.
+        Some(unsafe { &mut *at })
+    }
+
+    /// Whether there is a ledger.
     pub(crate) fn is_filled(&mut self) -> bool
         ensures answer { result ≡ false ↔ self.old.body ≡ None }
         ensures same { self.new.body ≡ self.old.body }

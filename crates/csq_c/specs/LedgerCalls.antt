@@ -1,0 +1,62 @@
+-- What the calls through the handle of a ledger return to C.
+use Rattle.std.specs.Prelude.{◌≡◌, ◌==◌, ℕ, List, Option, Some, None, if◌then◌else◌}
+use Rattle.irp_core.specs.declared.ids.IrpLife.{IrpLife}
+use Rattle.request_table.specs.Requests.{under_way_of_all}
+use Rattle.request_table.specs.declared.stage.Why.{Why}
+use Rattle.csq_list.specs.declared.entry.Peek.{Peek, TheVariants.{Any, File}}
+use Rattle.csq_queue.specs.Looks.{listed_count}
+use Rattle.csq_checked.specs.Sizes.{limits_given}
+use Rattle.csq_checked.specs.declared.size.QueueSize.{QueueSize as Given}
+use Rattle.csq_ledger.specs.Calls.{counts_for}
+use Rattle.csq_ledger.specs.Fresh.{IsFreshLedger, with_one_pass}
+use Rattle.csq_ledger.specs.Ledgers.{LedgerState, knows, named_stage}
+use Rattle.csq_ledger.specs.declared.looks.Counts.{Counts}
+use Rattle.csq_c.specs.Codes.{number_of}
+use Rattle.csq_c.specs.LedgerShapes.{look_of, why_numbered}
+use Rattle.csq_c.specs.Sizes.{IsGoodSize, given_size}
+use Rattle.csq_c.specs.declared.codes.Code.{Code, TheVariants.{Done, UnknownIrp, Holding, BadSize, EmptyHandle}}
+use Rattle.csq_c.specs.declared.handles.CsqLedger.{CsqLedger}
+use Rattle.csq_c.specs.declared.ledger.shapes.CsqLook.{CsqLook}
+use Rattle.csq_c.specs.declared.shapes.CsqSize.{CsqSize}
+
+-- a call through the handle of a ledger is as defined for what it holds. If it is empty the code says so, and nothing is changed
+pub record OnLedger (ledger ledger' : CsqLedger) (result : ℕ) (kept : Type 0) (stored : LedgerState → LedgerState → Code → Type 0) : Type 0 where
+  pub empty : ledger.boxed.body ≡ None → (result ≡ number_of EmptyHandle) × (ledger'.boxed.body ≡ None) × kept
+  pub called : (s : LedgerState) → ledger.boxed.body ≡ Some s → (s' : LedgerState) × (code : Code) × (ledger'.boxed.body ≡ Some s') × (result ≡ number_of code) × stored s s' code
+
+-- so is a look, which changes nothing
+pub record LooksAtLedger (ledger ledger' : CsqLedger) (result : ℕ) (kept : Type 0) (stored : LedgerState → Code → Type 0) : Type 0 where
+  pub same : ledger'.boxed.body ≡ ledger.boxed.body
+  pub empty : ledger.boxed.body ≡ None → (result ≡ number_of EmptyHandle) × kept
+  pub looked : (s : LedgerState) → ledger.boxed.body ≡ Some s → (code : Code) × (result ≡ number_of code) × stored s code
+
+-- a call for a reason is as defined for it. If the number stands for none, the code says so, and nothing is changed
+pub record OnWhy (number : ℕ) (code : Code) (kept : Type 0) (called : Why → Type 0) : Type 0 where
+  pub unknown : why_numbered number ≡ None → (code ≡ BadSize) × kept
+  pub known : (why : Why) → why_numbered number ≡ Some why → called why
+
+-- each number is in its range, but for the number of passes, which isn't looked at
+abbrev pub IsGoodLedgerSize : CsqSize → Type 0
+IsGoodLedgerSize c = IsGoodSize (record c { passes = 1 })
+
+-- a new ledger of this size, whose file objects have these limits
+abbrev pub IsNewLedger : CsqSize → List ℕ → LedgerState → Type 0
+IsNewLedger c limits s = (size : Given) × (given_size c ≡ Some size) × IsFreshLedger size (limits_given (with_one_pass size) limits) s
+
+-- how many are listed for a file object, if there is one, or for all, and under way
+abbrev pub counts_of : LedgerState → Peek → Option Counts
+counts_of s Any = Some (record { listed = listed_count s.single.queue.queue; under_way = under_way_of_all s.table })
+counts_of s (File f) = counts_for s f
+
+-- what freeing a ledger returns
+abbrev pub free_ledger_code : Option LedgerState → Code
+free_ledger_code None = EmptyHandle
+free_ledger_code (Some s) = if under_way_of_all s.table == 0 then Done else Holding
+
+-- whether there is such a request
+abbrev pub look_code : LedgerState → IrpLife → Code
+look_code s i = if knows s i.irp then Done else UnknownIrp
+
+-- what stands there once it was looked at
+abbrev pub look_written : LedgerState → IrpLife → CsqLook → CsqLook
+look_written s i old = if knows s i.irp then look_of (named_stage s i) else old
