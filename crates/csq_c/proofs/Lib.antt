@@ -2,3 +2,4 @@ pub mod Imports
 pub mod Holding
 pub mod OnTheHeap
 pub mod Called
+pub mod LedgerCalled
