@@ -1,5 +1,5 @@
-/* A plain C ledger of csq_ledger.h over the calls of csq.h, and unproved: to make the library of
- * csq_requests.h with, and to run its tests on. */
+/* A plain C ledger of the same header as the proved one, over the calls of csq.h, but unproved: to
+ * time that one against, and to run the tests on. */
 #include "csq_ledger.h"
 
 #include <stdbool.h>
