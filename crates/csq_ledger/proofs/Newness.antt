@@ -1,9 +1,11 @@
 -- A new queue with its one pass.
-use Rattle.std.proofs.Common.{◌≡◌, ℕ, zero, suc, ◌<◌, ◌+◌, ◌-◌, map, ◌⊎◌, inl, inr, true, false, true≢false, List, [], ◌∷◌, replicate, None, refl, sym, ap, ◌∙◌, subst, arith, slice_index_or}
+use Rattle.std.proofs.Common.{◌≡◌, ℕ, zero, suc, ◌<◌, ◌≤◌, ◌+◌, ◌-◌, map, ◌⊎◌, inl, inr, true, false, true≢false, List, [], ◌∷◌, replicate, None, refl, sym, ap, ◌∙◌, subst, arith, slice_index_or}
 use Rattle.std.proofs.lemmas.List.{get_or-replicate, length-replicate}
 use Rattle.csq_ledger.proofs.Imports.{PassRecord, IsSingle, IsWholeRun, Single, spot, run_none, queue_size, pass_numbered, Limits, HistoryEntry, Made}
 use Rattle.request_table.specs.declared.stage.Stage.{Stage, TheVariants.{Free, Spent}}
-use Rattle.request_table.specs.Requests.{fresh}
+use Rattle.request_table.specs.Requests.{IsTableSize, fresh}
+use Rattle.csq_list.specs.Listing.{IsLargeListSize}
+use Rattle.csq_list.specs.declared.size.TheConstants.{LARGE_MAX_FILES}
 use Rattle.csq_words.specs.Records.{new_pass}
 use Rattle.csq_queue.specs.Opens.{IsQueueOn, OpenPassState, OpenState}
 use Rattle.csq_checked.specs.Passes.{CheckedPassState, CheckedState, HandsOutAgain, HandsOutNew, IsPassIn}
@@ -101,3 +103,9 @@ new_of_one size file_limits q e =
       passes = ap (λ (l : Limits). l.passes) limits;
       first = ap (λ (l : Limits). l.first) limits;
     }
+
+-- a table may be as large as a list
+pub table_size : (irps files limit : ℕ) → IsLargeListSize irps files limit → IsTableSize irps files
+table_size irps files limit size =
+    let few : files ≤ LARGE_MAX_FILES = size.files_in_range.1 in
+    record { irps_in_range = size.irps_in_range; files_in_range = (size.files_in_range.0, omega arith) }

@@ -1,6 +1,7 @@
 //! How a ledger is made.
-ghost use Rattle.std.specs.Prelude.{◌≡◌, Err, IfOk, IsTrue, replicate};
+ghost use Rattle.std.specs.Prelude.{◌≡◌, ◌↔◌, Err, IfOk, IsTrue, replicate};
 ghost use Rattle.irp_core.specs.Runs.{IsInLargeLimits};
+ghost use Rattle.request_table.specs.Requests.{IsTableSize};
 ghost use Rattle.csq_list.specs.Listing.{IsLargeListSize, are_file_limits};
 ghost use Rattle.csq_checked.specs.Sizes.{limits_given, size_in};
 ghost use Rattle.csq_ledger.specs.Fresh.{IsFreshLedger, IsNewOfOne, with_one_pass};
@@ -18,9 +19,9 @@ impl Ledger {
     pub fn new(alloc: Global, size: QueueSize) -> Result<Ledger, SizeRefused>
         ensures made { IfOk result (IsFreshLedger size
             (limits_given (with_one_pass size) (replicate size.files size.irps))) }
-        ensures bad_size { ¬ (IsInLargeLimits (size_in (with_one_pass size))
-            × IsLargeListSize size.irps size.files size.limit)
-            → result ≡ Err SizeRefused.BadSize }
+        ensures bad_size { (result ≡ Err SizeRefused.BadSize)
+            ↔ ¬ (IsInLargeLimits (size_in (with_one_pass size))
+            × IsLargeListSize size.irps size.files size.limit) }
     {
         match CheckedQueue::new(alloc, one_pass(size)) {
             Ok(queue) => Ledger::over(alloc, size, queue),
@@ -37,10 +38,10 @@ impl Ledger {
     ) -> Result<Ledger, SizeRefused>
         ensures made { IfOk result (IsFreshLedger size
             (limits_given (with_one_pass size) file_limits.now)) }
-        ensures bad_size { ¬ (IsInLargeLimits (size_in (with_one_pass size))
+        ensures bad_size { (result ≡ Err SizeRefused.BadSize)
+            ↔ ¬ (IsInLargeLimits (size_in (with_one_pass size))
             × IsLargeListSize size.irps size.files size.limit
-            × IsTrue (are_file_limits size.irps size.files file_limits.now))
-            → result ≡ Err SizeRefused.BadSize }
+            × IsTrue (are_file_limits size.irps size.files file_limits.now)) }
     {
         match CheckedQueue::with_file_limits(alloc, one_pass(size), file_limits) {
             Ok(queue) => Ledger::over(alloc, size, queue),
@@ -51,7 +52,9 @@ impl Ledger {
     /// A ledger over this new queue.
     fn over(alloc: Global, size: QueueSize, queue: CheckedQueue) -> Result<Ledger, SizeRefused>
         requires new { IsNewOfOne size queue }
-        ensures { IfOk result (IsFreshLedger size queue.queue.limits) }
+        ensures made { IfOk result (IsFreshLedger size queue.queue.limits) }
+        ensures bad_size { result ≡ Err SizeRefused.BadSize
+            → ¬ IsTableSize size.irps size.files }
     {
         let queue = SinglePassQueue::over(alloc, size, queue)?;
         let table = RequestTable::new(alloc, size.irps, size.files)?;

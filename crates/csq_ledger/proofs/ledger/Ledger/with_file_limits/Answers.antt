@@ -8,7 +8,7 @@ use Rattle.csq_checked.specs.Passes.{CheckedState}
 use Rattle.csq_checked.specs.Sizes.{limits_given, new_checked, size_in}
 use Rattle.csq_checked.specs.declared.size.QueueSize.{QueueSize}
 use Rattle.csq_ledger.specs.Fresh.{IsFreshLedger, with_one_pass}
-use Rattle.csq_ledger.proofs.Newness.{new_of_one}
+use Rattle.csq_ledger.proofs.Newness.{new_of_one, table_size}
 use Rattle.csq_ledger.proofs.ledger.Ledger.with_file_limits.Goals as goal
 
 pub over-requires : goal.over-requires
@@ -18,8 +18,11 @@ pub returns-in-Ok : goal.returns-in-Ok
 returns-in-Ok c = record {
   made =
       let limits : c.in-Ok.queue.queue.limits ≡ limits_given (with_one_pass c.args.size) c.args.file_limits.now = ap (λ (q : CheckedState). q.queue.limits) c.in-Ok.ensures.made ∙ ap (λ (g : QueueSize). limits_given g c.args.file_limits.now) c.one_pass.ensures in
-      subst (λ (l : Limits). IfOk c.over.result (IsFreshLedger c.args.size l)) limits c.over.ensures;
-  bad_size = λ no.
-      let refused = subst (λ (g : QueueSize). ¬ (IsInLargeLimits (size_in g) × IsLargeListSize g.irps g.files g.limit × IsTrue (are_file_limits g.irps g.files c.args.file_limits.now)) → Ok c.in-Ok.queue ≡ Err BadSize) c.one_pass.ensures c.in-Ok.ensures.bad_size.1 no in
-      absurd (cc);
+      subst (λ (l : Limits). IfOk c.over.result (IsFreshLedger c.args.size l)) limits c.over.ensures.made;
+  bad_size = (
+    (λ bad good. c.over.ensures.bad_size bad (table_size c.args.size.irps c.args.size.files c.args.size.limit good.1)),
+    (λ no.
+        let refused = subst (λ (g : QueueSize). ¬ (IsInLargeLimits (size_in g) × IsLargeListSize g.irps g.files g.limit × IsTrue (are_file_limits g.irps g.files c.args.file_limits.now)) → Ok c.in-Ok.queue ≡ Err BadSize) c.one_pass.ensures c.in-Ok.ensures.bad_size.1 no in
+        absurd (cc)),
+  );
 }
