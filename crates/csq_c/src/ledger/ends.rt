@@ -19,7 +19,7 @@ use std::alloc::Global;
 fn made(alloc: Global, size: &CsqSize) -> Result<Ledger, SizeRefused>
     ensures made { IfOk result
         (IsNewLedger size.now (replicate size.now.files size.now.irps)) }
-    ensures bad_size { ¬ IsGoodLedgerSize size.now → result ≡ Err SizeRefused.BadSize }
+    ensures bad_size { (result ≡ Err SizeRefused.BadSize) ↔ ¬ IsGoodLedgerSize size.now }
 {
     let Some(size) = size.given() else {
         return Err(SizeRefused::BadSize);
@@ -30,9 +30,9 @@ fn made(alloc: Global, size: &CsqSize) -> Result<Ledger, SizeRefused>
 /// A ledger of this size, each file object with a limit of its own.
 fn made_with(alloc: Global, size: &CsqSize, file_limits: &[u32]) -> Result<Ledger, SizeRefused>
     ensures made { IfOk result (IsNewLedger size.now file_limits.now) }
-    ensures bad_size { ¬ (IsGoodLedgerSize size.now
-        × IsTrue (are_file_limits size.now.irps size.now.files file_limits.now))
-        → result ≡ Err SizeRefused.BadSize }
+    ensures bad_size { (result ≡ Err SizeRefused.BadSize)
+        ↔ ¬ (IsGoodLedgerSize size.now
+        × IsTrue (are_file_limits size.now.irps size.now.files file_limits.now)) }
 {
     let Some(size) = size.given() else {
         return Err(SizeRefused::BadSize);
@@ -43,7 +43,7 @@ fn made_with(alloc: Global, size: &CsqSize, file_limits: &[u32]) -> Result<Ledge
 /// The box of a ledger that was made, or why there is none.
 fn boxed(alloc: Global, made: Result<Ledger, SizeRefused>) -> Result<Box<Ledger>, Code>
     ensures made { IfOk result (λ body. made ≡ Ok body.value) }
-    ensures bad_size { made ≡ Err SizeRefused.BadSize → result ≡ Err Code.BadSize }
+    ensures bad_size { (result ≡ Err Code.BadSize) ↔ (made ≡ Err SizeRefused.BadSize) }
     ensures cause { IfErr result (λ code. (code ≡ Code.BadSize) ⊎ (code ≡ Code.NoMemory)) }
 {
     let ledger = match made {
@@ -78,8 +78,8 @@ macro_rules! fill {
 #[unsafe(no_mangle)]
 pub extern "C" fn csq_ledger_new(alloc: Global, ledger: &mut CsqLedger, size: &CsqSize) -> u32
     ensures filled { (result ≡ number_of Code.NotEmpty) ↔ ¬ (ledger.old.boxed.body ≡ None) }
-    ensures bad_size { ledger.old.boxed.body ≡ None → ¬ IsGoodLedgerSize size.now
-        → result ≡ number_of Code.BadSize }
+    ensures bad_size { ledger.old.boxed.body ≡ None → ((result ≡ number_of Code.BadSize)
+        ↔ ¬ IsGoodLedgerSize size.now) }
     ensures made { result ≡ number_of Code.Done → IfSome ledger.new.boxed.body
         (IsNewLedger size.now (replicate size.now.files size.now.irps)) }
     ensures there { result ≡ number_of Code.Done → ¬ (ledger.new.boxed.body ≡ None) }
@@ -101,9 +101,9 @@ pub extern "C" fn csq_ledger_new_with_file_limits(
     file_limits: &[u32],
 ) -> u32
     ensures filled { (result ≡ number_of Code.NotEmpty) ↔ ¬ (ledger.old.boxed.body ≡ None) }
-    ensures bad_size { ledger.old.boxed.body ≡ None → ¬ (IsGoodLedgerSize size.now
-        × IsTrue (are_file_limits size.now.irps size.now.files file_limits.now))
-        → result ≡ number_of Code.BadSize }
+    ensures bad_size { ledger.old.boxed.body ≡ None → ((result ≡ number_of Code.BadSize)
+        ↔ ¬ (IsGoodLedgerSize size.now
+        × IsTrue (are_file_limits size.now.irps size.now.files file_limits.now))) }
     ensures made { result ≡ number_of Code.Done → IfSome ledger.new.boxed.body
         (IsNewLedger size.now file_limits.now) }
     ensures there { result ≡ number_of Code.Done → ¬ (ledger.new.boxed.body ≡ None) }

@@ -19,7 +19,7 @@ use crate::handles::{CsqLedger, lend};
 use crate::ledger::codes::{
     of_begin, of_cancel, of_end, of_expire, of_finish, of_put_back, of_take,
 };
-use crate::ledger::shapes::{CsqEnded, due as due_at, why as why_numbered};
+use crate::ledger::shapes::{CsqEnded, due_at, why_numbered};
 use crate::shapes::{CsqIrp, peek, place, write};
 use irp_core::{FileId, NtStatus};
 

@@ -7,7 +7,7 @@ ghost use Rattle.csq_c.specs.LedgerShapes.{ended_written, look_of, named_number,
 use request_table::{Ended, NEVER, Stage, Why};
 
 /// Why a request ends, by its number: none by 0, nor by a number that isn't in `csq_ledger.h`.
-pub(crate) fn why(number: u32) -> Option<Why>
+pub(crate) fn why_numbered(number: u32) -> Option<Why>
     ensures { result ≡ why_numbered number }
 {
     match number {
@@ -21,7 +21,7 @@ pub(crate) fn why(number: u32) -> Option<Why>
 }
 
 /// When a request is due: never by `NEVER`.
-pub(crate) fn due(time: u64) -> Option<u64>
+pub(crate) fn due_at(time: u64) -> Option<u64>
     ensures due { result ≡ due_at time }
     ensures time { ForSome result (λ t. t < NEVER) }
 {
