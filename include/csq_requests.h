@@ -43,7 +43,8 @@
  * threads, and no thread is cancelled (pthread_cancel) inside of one.
  *
  * Link with the library of csq.h and with -pthread. Each call is a symbol of it. Nothing of this
- * header is proved; it is tested. Since: 1.1.
+ * header is proved, but the calls of csq_ledger.h below it are in the proved library; it is tested.
+ * Since: 1.1.
  */
 #ifndef CSQ_REQUESTS_H
 #define CSQ_REQUESTS_H
