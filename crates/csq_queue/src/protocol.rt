@@ -306,7 +306,7 @@ pub(crate) fn renew_irp<L: PendingList, A: Allocator>(
     let present = IrpLife { irp, life };
     // The flag comes last, and is the linearization point. Until then a late cancel flags the life that
     // ends, if no routine is left to take; from then on it finds another life. The routine's word stays
-    // as it is: none is set there, and whoever looks for one looks for that of a life.
+    // as it is: none is set there, and a cancel takes that of its own life alone.
     seat.renew_status(words, call, present);
     seat.renew_cancel(words, call, present);
     // Still under the lock, so no call that takes it sees list, lives and words apart.

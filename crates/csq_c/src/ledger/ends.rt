@@ -73,7 +73,7 @@ macro_rules! fill {
 }
 
 /// Makes a ledger over a new queue of this size, whose number of passes isn't looked at, and whose
-/// file objects have no limit of their own: CSQ_OK, else CSQ_NOT_EMPTY, CSQ_BAD_SIZE or
+/// file objects have no limit of their own: CSQ_OK, otherwise CSQ_NOT_EMPTY, CSQ_BAD_SIZE or
 /// CSQ_NO_MEMORY. Own rule.
 #[unsafe(no_mangle)]
 pub extern "C" fn csq_ledger_new(alloc: Global, ledger: &mut CsqLedger, size: &CsqSize) -> u32
@@ -114,7 +114,7 @@ pub extern "C" fn csq_ledger_new_with_file_limits(
     fill!(ledger, alloc, made_with(alloc, size, file_limits))
 }
 
-/// Frees a ledger: CSQ_OK, and its handle is empty, else CSQ_EMPTY_HANDLE, or CSQ_HOLDING if
+/// Frees a ledger: CSQ_OK, and its handle is empty, otherwise CSQ_EMPTY_HANDLE, or CSQ_HOLDING if
 /// requests are under way. Own rule.
 #[unsafe(no_mangle)]
 pub extern "C" fn csq_ledger_free(alloc: Global, ledger: &mut CsqLedger) -> u32
@@ -130,7 +130,7 @@ pub extern "C" fn csq_ledger_free(alloc: Global, ledger: &mut CsqLedger) -> u32
     Code::Done.number()
 }
 
-/// Refuses each further begin as CSQ_CLOSED: CSQ_OK, also if it is closed already, else
+/// Refuses each further begin as CSQ_CLOSED: CSQ_OK, also if it is closed already, otherwise
 /// CSQ_EMPTY_HANDLE. Own rule.
 #[unsafe(no_mangle)]
 pub extern "C" fn csq_ledger_close(ledger: &mut CsqLedger) -> u32
@@ -143,8 +143,8 @@ pub extern "C" fn csq_ledger_close(ledger: &mut CsqLedger) -> u32
     Code::Done.number()
 }
 
-/// Closes a file object for good: CSQ_OK, also if it is closed already, else CSQ_EMPTY_HANDLE or
-/// CSQ_UNKNOWN_FILE. The first step of `IRP_MJ_CLEANUP`.
+/// Closes a file object for good: CSQ_OK, also if it is closed already, otherwise CSQ_EMPTY_HANDLE
+/// or CSQ_UNKNOWN_FILE. The first step of `IRP_MJ_CLEANUP`.
 #[unsafe(no_mangle)]
 pub extern "C" fn csq_ledger_close_file(ledger: &mut CsqLedger, file: u32) -> u32
     ensures { OnLedger ledger.old ledger.new result (Unit {0})

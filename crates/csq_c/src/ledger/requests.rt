@@ -24,9 +24,9 @@ use crate::shapes::{CsqIrp, peek, place, write};
 use irp_core::{FileId, NtStatus};
 
 /// Lists a new request under the number that has been free longest, for a file object, first unless
-/// `front` is 0, due at `due` or never by the largest number, and writes its name: CSQ_OK, else
-/// CSQ_UNKNOWN_FILE, CSQ_CLOSED, CSQ_FILE_CLOSED, CSQ_LIVES_SPENT, CSQ_FULL, CSQ_FILE_FULL or
-/// CSQ_FULL, the first cause that holds. As `IoCsqInsertIrpEx`.
+/// `front` is 0, due at `due` or never by the largest number, and writes its name: CSQ_OK,
+/// otherwise CSQ_UNKNOWN_FILE, CSQ_CLOSED, CSQ_FILE_CLOSED, CSQ_LIVES_SPENT, CSQ_FULL,
+/// CSQ_FILE_FULL or CSQ_FULL, the first cause that holds. As `IoCsqInsertIrpEx`.
 #[unsafe(no_mangle)]
 pub extern "C" fn csq_ledger_begin(
     ledger: &mut CsqLedger,
@@ -47,7 +47,8 @@ pub extern "C" fn csq_ledger_begin(
 }
 
 /// Takes the first that is listed for a file object, or for any by the largest number, and writes
-/// its name and its file object: CSQ_OK, else CSQ_UNKNOWN_FILE or CSQ_NONE. As `IoCsqRemoveNextIrp`.
+/// its name and its file object: CSQ_OK, otherwise CSQ_UNKNOWN_FILE or CSQ_NONE. As
+/// `IoCsqRemoveNextIrp`.
 #[unsafe(no_mangle)]
 pub extern "C" fn csq_ledger_take(
     ledger: &mut CsqLedger,
@@ -69,9 +70,10 @@ pub extern "C" fn csq_ledger_take(
     code.number()
 }
 
-/// Lists a request again that is taken, first unless `front` is 0: CSQ_OK, else CSQ_UNKNOWN_IRP,
-/// CSQ_NOT_HELD, CSQ_NOT_REMOVED, CSQ_FILE_CLOSED, CSQ_FILE_FULL, CSQ_FULL or CSQ_CANCELLED, the
-/// first cause that holds. As `IoCsqInsertIrpEx` of an IRP that `IoCsqRemoveNextIrp` returned.
+/// Lists a request again that is taken, first unless `front` is 0: CSQ_OK, otherwise
+/// CSQ_UNKNOWN_IRP, CSQ_NOT_HELD, CSQ_NOT_REMOVED, CSQ_FILE_CLOSED, CSQ_FILE_FULL, CSQ_FULL or
+/// CSQ_CANCELLED, the first cause that holds. As `IoCsqInsertIrpEx` of an IRP that
+/// `IoCsqRemoveNextIrp` returned.
 #[unsafe(no_mangle)]
 pub extern "C" fn csq_ledger_put_back(ledger: &mut CsqLedger, name: CsqIrp, front: u32) -> u32
     ensures { OnLedger ledger.old ledger.new result (Unit {0})
@@ -84,7 +86,8 @@ pub extern "C" fn csq_ledger_put_back(ledger: &mut CsqLedger, name: CsqIrp, fron
 }
 
 /// Completes a request that is taken with this status, ends it, and writes how it ended: CSQ_OK,
-/// else CSQ_UNKNOWN_IRP, CSQ_NOT_HELD, CSQ_NOT_REMOVED or CSQ_NOT_FINAL. As `IoCompleteRequest`.
+/// otherwise CSQ_UNKNOWN_IRP, CSQ_NOT_HELD, CSQ_NOT_REMOVED or CSQ_NOT_FINAL. As
+/// `IoCompleteRequest`.
 #[unsafe(no_mangle)]
 pub extern "C" fn csq_ledger_finish(
     ledger: &mut CsqLedger,
@@ -105,7 +108,7 @@ pub extern "C" fn csq_ledger_finish(
 }
 
 /// Cancels a request by its name, for this reason: CSQ_OK if it was listed, and it is ending then,
-/// else CSQ_BAD_SIZE, CSQ_UNKNOWN_IRP, CSQ_STALE, or CSQ_NONE if it is taken or ending. As
+/// otherwise CSQ_BAD_SIZE, CSQ_UNKNOWN_IRP, CSQ_STALE, or CSQ_NONE if it is taken or ending. As
 /// `IoCancelIrp`.
 #[unsafe(no_mangle)]
 pub extern "C" fn csq_ledger_cancel(ledger: &mut CsqLedger, name: CsqIrp, why: u32) -> u32
@@ -121,8 +124,8 @@ pub extern "C" fn csq_ledger_cancel(ledger: &mut CsqLedger, name: CsqIrp, why: u
 }
 
 /// Takes out the first that is listed for a file object, or for any by the largest number, for this
-/// reason, and writes its name and its file object: CSQ_OK, else CSQ_BAD_SIZE, CSQ_UNKNOWN_FILE or
-/// CSQ_NONE. As a step of `IRP_MJ_CLEANUP`.
+/// reason, and writes its name and its file object: CSQ_OK, otherwise CSQ_BAD_SIZE,
+/// CSQ_UNKNOWN_FILE or CSQ_NONE. As a step of `IRP_MJ_CLEANUP`.
 #[unsafe(no_mangle)]
 pub extern "C" fn csq_ledger_drain_next(
     ledger: &mut CsqLedger,
@@ -173,7 +176,7 @@ pub extern "C" fn csq_ledger_expire(
 }
 
 /// Completes a request that is ending with STATUS_CANCELLED, ends it, and writes how it ended:
-/// CSQ_OK, else CSQ_UNKNOWN_IRP or CSQ_NOT_HELD. As `CsqCompleteCanceledIrp`.
+/// CSQ_OK, otherwise CSQ_UNKNOWN_IRP or CSQ_NOT_HELD. As `CsqCompleteCanceledIrp`.
 #[unsafe(no_mangle)]
 pub extern "C" fn csq_ledger_end(ledger: &mut CsqLedger, name: CsqIrp, ended: &mut CsqEnded) -> u32
     ensures { OnLedger ledger.old ledger.new result (ended.new ≡ ended.old)

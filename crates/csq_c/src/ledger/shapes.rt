@@ -101,9 +101,9 @@ impl CsqLook {
 pub struct CsqEnded {
     /// Its file object.
     pub file: u32,
-    /// 1 if it was the last one under way for that, else 0.
+    /// 1 if it was the last one under way for that, otherwise 0.
     pub file_is_quiet: u32,
-    /// 1 if it was the last one under way for all, else 0.
+    /// 1 if it was the last one under way for all, otherwise 0.
     pub all_are_quiet: u32,
 }
 
