@@ -241,7 +241,7 @@ CSQ_NODISCARD uint32_t csq_requests_put_back(struct csq_requests *requests,
 /* What has named a request that was taken, so that nobody waits for it: CSQ_WHY_CANCEL, or
  * CSQ_WHY_DUE if its time was over first; CSQ_WHY_NONE if nothing has, and of one that isn't under
  * way any more. Of one that is ending: why it is. No event tells of it, and a drain or a cleanup
- * names nothing that is taken: a caller that drains tells the holder otherwise. */
+ * names nothing that is taken: what drains has to tell the holder by itself. */
 uint32_t csq_requests_is_cancelled(struct csq_requests *requests,
                                    const struct csq_request *request);
 
