@@ -3,6 +3,24 @@
 #include <stdlib.h>
 #include <string.h>
 
+bool plain_list_is_size(const struct csq_size *size) {
+    return 1 <= size->irps && size->irps <= CSQ_MOST_IRPS && 1 <= size->files &&
+           size->files <= CSQ_MOST_FILES && 1 <= size->limit && size->limit <= size->irps &&
+           size->first_life <= CSQ_LAST_LIFE && size->list <= CSQ_AUTO;
+}
+
+bool plain_list_are_limits(const struct csq_size *size, const uint32_t *file_limits, size_t count) {
+    if (count != size->files) {
+        return false;
+    }
+    for (size_t at = 0; at < count; at++) {
+        if (file_limits[at] < 1 || file_limits[at] > size->irps) {
+            return false;
+        }
+    }
+    return true;
+}
+
 static uint32_t *numbers(uint32_t count, uint32_t value) {
     uint32_t *made = malloc(count * sizeof *made);
     for (uint32_t at = 0; made && at < count; at++) {

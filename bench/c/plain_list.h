@@ -37,6 +37,10 @@ struct plain_list {
     struct links *file_links;/* the chain of its file object, by IRP */
 };
 
+/* Whether there are queues of this size, whatever its number of passes, and of these limits. */
+bool plain_list_is_size(const struct csq_size *size);
+bool plain_list_are_limits(const struct csq_size *size, const uint32_t *file_limits, size_t count);
+
 /* A list of this size; file_limits is null where no file object has a limit of its own. False for
  * want of memory. */
 bool plain_list_new(struct plain_list *list, const struct csq_size *size,

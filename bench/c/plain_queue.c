@@ -75,22 +75,7 @@ static struct pass *pass_in(struct csq_pass *pass) {
 /* ---- A queue's beginning and end ---- */
 
 static bool is_size(const struct csq_size *size) {
-    return 1 <= size->irps && size->irps <= CSQ_MOST_IRPS && 1 <= size->files &&
-           size->files <= CSQ_MOST_FILES && 1 <= size->limit && size->limit <= size->irps &&
-           1 <= size->passes && size->passes <= CSQ_MOST_PASSES &&
-           size->first_life <= CSQ_LAST_LIFE && size->list <= CSQ_AUTO;
-}
-
-static bool are_limits(const struct csq_size *size, const uint32_t *file_limits, size_t count) {
-    if (count != size->files) {
-        return false;
-    }
-    for (size_t at = 0; at < count; at++) {
-        if (file_limits[at] < 1 || file_limits[at] > size->irps) {
-            return false;
-        }
-    }
-    return true;
+    return plain_list_is_size(size) && 1 <= size->passes && size->passes <= CSQ_MOST_PASSES;
 }
 
 static void free_pass(struct pass *by) {
@@ -150,8 +135,9 @@ uint32_t csq_new_queue_with_file_limits(struct csq_queue *queue, const struct cs
     if (queue->at) {
         return CSQ_NOT_EMPTY;
     }
-    return is_size(size) && are_limits(size, file_limits, count) ? make(queue, size, file_limits)
-                                                                 : CSQ_BAD_SIZE;
+    return is_size(size) && plain_list_are_limits(size, file_limits, count)
+               ? make(queue, size, file_limits)
+               : CSQ_BAD_SIZE;
 }
 
 uint32_t csq_version(void) {

@@ -3,7 +3,9 @@
 //! one submitter and several workers. Each row is the median of seven turns, in each of which all
 //! of the row run.
 //!
-//! `cargo bench`, with `CSQ_LIBRARY` or a feature that links the library.
+//! `cargo bench`, with `CSQ_LIBRARY` or a feature that links the library. The program that it
+//! builds, run with the words `request WORKERS` or `channel WORKERS`, times one turn of that alone,
+//! in one thread with 0 workers, and prints the nanoseconds of a job.
 use csq::{FinalStatus, Inserted, Irp, List, Peek, Place, Queue, Requests, Size};
 use std::sync::atomic::{
     AtomicBool, AtomicU64,
@@ -26,14 +28,19 @@ fn size(passes: u32) -> Size {
     }
 }
 
-/// Nanoseconds a job of each of these: the medians of turns in which all run.
+/// Nanoseconds of a job in this turn.
+fn time(run: &dyn Fn()) -> f64 {
+    let start = Instant::now();
+    run();
+    start.elapsed().as_nanos() as f64 / JOBS as f64
+}
+
+/// Nanoseconds of a job in each of these: the medians of turns in which all run.
 fn medians<const N: usize>(runs: [&dyn Fn(); N]) -> [f64; N] {
     let mut times = [(); N].map(|()| Vec::new());
     for _ in 0..RUNS {
         for (run, times) in runs.iter().zip(&mut times) {
-            let start = Instant::now();
-            run();
-            times.push(start.elapsed().as_nanos() as f64 / JOBS as f64);
+            times.push(time(run));
         }
     }
     times.map(|mut times| {
@@ -146,11 +153,28 @@ fn channel(workers: u32) {
     assert_eq!(sum.into_inner(), JOBS * (JOBS - 1) / 2);
 }
 
-fn main() {
-    // `cargo test --all-targets` runs it too, and wants no figures.
-    if !std::env::args().any(|word| word == "--bench") {
-        return;
+/// Times one turn of a job in this way, with this number of workers.
+fn time_alone(kind: &str, workers: u32) -> f64 {
+    match (kind, workers) {
+        ("request", 0) => time(&cycle_of_requests),
+        ("request", _) => time(&|| requests(workers)),
+        ("channel", 0) => time(&cycle_of_a_channel),
+        ("channel", _) => time(&|| channel(workers)),
+        _ => panic!("{kind} is neither request nor channel"),
     }
+}
+
+fn main() {
+    let words: Vec<_> = std::env::args().skip(1).collect();
+    match words.as_slice() {
+        [kind, workers] => println!("{:.1}", time_alone(kind, workers.parse().unwrap())),
+        [word] if word == "--bench" => print_all(),
+        // `cargo test --all-targets` runs it too, and wants no figures.
+        _ => {}
+    }
+}
+
+fn print_all() {
     let [bare, whole, job] = medians([&bare_cycle, &cycle_of_requests, &cycle_of_a_channel]);
     println!(
         "one thread: the queue's cycle {bare:.0} ns, a request {whole:.0} ns, a cancellable job of \
