@@ -109,7 +109,7 @@ impl fmt::Display for StepClass {
     }
 }
 
-/// The call of the WDK that a step of this kind is.
+/// The call of the WDK that a step of this kind is; of one that a callback makes, or a cancel routine by hand, what it does.
 fn wdk_call(kind: Kind) -> &'static str {
     match kind {
         Kind::Arm(_) | Kind::Rearm(_) => "IoSetCancelRoutine(Irp, routine)",
@@ -117,7 +117,7 @@ fn wdk_call(kind: Kind) -> &'static str {
         Kind::Disarm(_) | Kind::Take(_) => "IoSetCancelRoutine(Irp, NULL)",
         Kind::End => "return NULL",
         Kind::Flag(_) => "Irp->Cancel = TRUE",
-        Kind::Out(_) => "CsqRemoveIrp",
+        Kind::Out(_) => "out of the list",
         Kind::Done(_) => "IoCompleteRequest",
         Kind::Renew(_) => "IoReuseIrp",
     }

@@ -38,26 +38,26 @@ insert_word _ = codes "insert"
 
 -- what a read of the Cancel flag or an exchange of the routine with none found, inside of x: something, or nothing
 abbrev pub finding : Inside → Kind → Bool → List ℕ
-finding x (Test i) false = codes " found the Cancel flag of IRP " ++ (name_text i ++ (codes " clear (if (Irp->Cancel) in IoCsqInsertIrpEx): the " ++ (insert_word x ++ codes " ends, and the IRP is pending")))
-finding x (Test i) true = codes " found the Cancel flag of IRP " ++ (name_text i ++ codes " set (if (Irp->Cancel) in IoCsqInsertIrpEx)")
-finding x (Disarm i) false = if in_insert x then codes " found no cancel routine of IRP " ++ (name_text i ++ (codes " (IoSetCancelRoutine(Irp, NULL) in IoCsqInsertIrpEx): a cancel has it, and the " ++ (insert_word x ++ codes " ends")))
-    else codes " found no cancel routine of IRP " ++ (name_text i ++ codes " (IoSetCancelRoutine(Irp, NULL) in IoCsqRemoveNextIrp or IoCsqRemoveIrp): a cancel has it, and the removal goes on without it")
-finding x (Disarm i) true = if in_insert x then codes " took the cancel routine of IRP " ++ (name_text i ++ codes " back (IoSetCancelRoutine(Irp, NULL) in IoCsqInsertIrpEx), and holds it now")
-    else codes " took the cancel routine of IRP " ++ (name_text i ++ codes " (IoSetCancelRoutine(Irp, NULL) in IoCsqRemoveNextIrp or IoCsqRemoveIrp), and holds it now: the removal ends")
+finding x (Test i) false = codes " found the Cancel flag of IRP " ++ (name_text i ++ (codes " clear (if (Irp->Cancel), as in IoCsqInsertIrpEx): the " ++ (insert_word x ++ codes " ends, and the IRP is pending")))
+finding x (Test i) true = codes " found the Cancel flag of IRP " ++ (name_text i ++ codes " set (if (Irp->Cancel), as in IoCsqInsertIrpEx)")
+finding x (Disarm i) false = if in_insert x then codes " found no cancel routine of IRP " ++ (name_text i ++ (codes " (IoSetCancelRoutine(Irp, NULL), as in IoCsqInsertIrpEx): a cancel has it, and the " ++ (insert_word x ++ codes " ends")))
+    else codes " found no cancel routine of IRP " ++ (name_text i ++ codes " (IoSetCancelRoutine(Irp, NULL), as in IoCsqRemoveNextIrp or IoCsqRemoveIrp): a cancel has it, and the removal goes on without it")
+finding x (Disarm i) true = if in_insert x then codes " took the cancel routine of IRP " ++ (name_text i ++ codes " back (IoSetCancelRoutine(Irp, NULL), as in IoCsqInsertIrpEx), and holds it now")
+    else codes " took the cancel routine of IRP " ++ (name_text i ++ codes " (IoSetCancelRoutine(Irp, NULL), as in IoCsqRemoveNextIrp or IoCsqRemoveIrp), and holds it now: the removal ends")
 finding x (Take i) false = codes " found no cancel routine of IRP " ++ (name_text i ++ codes " (IoSetCancelRoutine(Irp, NULL) in IoCancelIrp): the cancel ends, and returns FALSE")
 finding x (Take i) true = codes " took the cancel routine of IRP " ++ (name_text i ++ codes " (IoSetCancelRoutine(Irp, NULL) in IoCancelIrp), and owes it now")
 finding x _ found = []
 
 -- what a pass did by a step of this kind, inside of x, which found something or nothing
 abbrev pub deed : Inside → Option NtStatus → Kind → Bool → List ℕ
-deed x status (Arm i) found = codes " set the cancel routine of IRP " ++ (name_text i ++ codes " (IoSetCancelRoutine(Irp, routine) in IoCsqInsertIrpEx)")
-deed x status End found = codes " ended its removal without an IRP (IoCsqRemoveNextIrp or IoCsqRemoveIrp returns NULL)"
+deed x status (Arm i) found = codes " set the cancel routine of IRP " ++ (name_text i ++ codes " (IoSetCancelRoutine(Irp, routine), as in IoCsqInsertIrpEx)")
+deed x status End found = codes " ended its removal without an IRP (as where IoCsqRemoveNextIrp or IoCsqRemoveIrp returns NULL)"
 deed x status (Flag i) false = codes " set the Cancel flag of IRP " ++ (name_text i ++ codes " (Irp->Cancel = TRUE in IoCancelIrp)")
 deed x status (Flag i) true = codes " found the Cancel flag of IRP " ++ (name_text i ++ codes " set already (Irp->Cancel = TRUE in IoCancelIrp)")
-deed x status (Out i) found = codes " took IRP " ++ (name_text i ++ codes " out of the list (CsqRemoveIrp in the cancel routine), and holds it now")
+deed x status (Out i) found = codes " took IRP " ++ (name_text i ++ codes " out of the list (in the cancel routine, as CsqRemoveIrp does), and holds it now")
 deed x status (Done i) found = codes " completed IRP " ++ (name_text i ++ (with_status status ++ codes " (IoCompleteRequest)"))
 deed x status (Renew i) found = codes " began the life that comes after IRP " ++ (name_text i ++ codes " (IoReuseIrp)")
-deed x status (Rearm i) found = codes " put IRP " ++ (name_text i ++ codes " back and set its cancel routine again (IoSetCancelRoutine(Irp, routine) in IoCsqInsertIrpEx), and holds it no longer")
+deed x status (Rearm i) found = codes " put IRP " ++ (name_text i ++ codes " back and set its cancel routine again (IoSetCancelRoutine(Irp, routine), as in IoCsqInsertIrpEx), and holds it no longer")
 deed x status k found = finding x k found
 
 -- a step, described in a sentence

@@ -113,27 +113,27 @@ impl fmt::Display for Finding {
         match (made.kind, inside, made.found != 0) {
             (Kind::Test(irp), _, false) => write!(
                 f,
-                " found the Cancel flag of IRP {irp} clear (if (Irp->Cancel) in IoCsqInsertIrpEx): the {insert} ends, and the IRP is pending"
+                " found the Cancel flag of IRP {irp} clear (if (Irp->Cancel), as in IoCsqInsertIrpEx): the {insert} ends, and the IRP is pending"
             ),
             (Kind::Test(irp), _, true) => write!(
                 f,
-                " found the Cancel flag of IRP {irp} set (if (Irp->Cancel) in IoCsqInsertIrpEx)"
+                " found the Cancel flag of IRP {irp} set (if (Irp->Cancel), as in IoCsqInsertIrpEx)"
             ),
             (Kind::Disarm(irp), Nothing | Removing | Cancelling(_), true) => write!(
                 f,
-                " took the cancel routine of IRP {irp} (IoSetCancelRoutine(Irp, NULL) in IoCsqRemoveNextIrp or IoCsqRemoveIrp), and holds it now: the removal ends"
+                " took the cancel routine of IRP {irp} (IoSetCancelRoutine(Irp, NULL), as in IoCsqRemoveNextIrp or IoCsqRemoveIrp), and holds it now: the removal ends"
             ),
             (Kind::Disarm(irp), Nothing | Removing | Cancelling(_), false) => write!(
                 f,
-                " found no cancel routine of IRP {irp} (IoSetCancelRoutine(Irp, NULL) in IoCsqRemoveNextIrp or IoCsqRemoveIrp): a cancel has it, and the removal goes on without it"
+                " found no cancel routine of IRP {irp} (IoSetCancelRoutine(Irp, NULL), as in IoCsqRemoveNextIrp or IoCsqRemoveIrp): a cancel has it, and the removal goes on without it"
             ),
             (Kind::Disarm(irp), _, true) => write!(
                 f,
-                " took the cancel routine of IRP {irp} back (IoSetCancelRoutine(Irp, NULL) in IoCsqInsertIrpEx), and holds it now"
+                " took the cancel routine of IRP {irp} back (IoSetCancelRoutine(Irp, NULL), as in IoCsqInsertIrpEx), and holds it now"
             ),
             (Kind::Disarm(irp), _, false) => write!(
                 f,
-                " found no cancel routine of IRP {irp} (IoSetCancelRoutine(Irp, NULL) in IoCsqInsertIrpEx): a cancel has it, and the {insert} ends"
+                " found no cancel routine of IRP {irp} (IoSetCancelRoutine(Irp, NULL), as in IoCsqInsertIrpEx): a cancel has it, and the {insert} ends"
             ),
             (Kind::Take(irp), _, true) => write!(
                 f,
@@ -165,11 +165,11 @@ impl fmt::Display for Sentence {
         match (step.made.kind, step.made.found != 0) {
             (Kind::Arm(irp), _) => write!(
                 f,
-                "{pass} set the cancel routine of IRP {irp} (IoSetCancelRoutine(Irp, routine) in IoCsqInsertIrpEx)"
+                "{pass} set the cancel routine of IRP {irp} (IoSetCancelRoutine(Irp, routine), as in IoCsqInsertIrpEx)"
             ),
             (Kind::End, _) => write!(
                 f,
-                "{pass} ended its removal without an IRP (IoCsqRemoveNextIrp or IoCsqRemoveIrp returns NULL)"
+                "{pass} ended its removal without an IRP (as where IoCsqRemoveNextIrp or IoCsqRemoveIrp returns NULL)"
             ),
             (Kind::Flag(irp), false) => write!(
                 f,
@@ -181,7 +181,7 @@ impl fmt::Display for Sentence {
             ),
             (Kind::Out(irp), _) => write!(
                 f,
-                "{pass} took IRP {irp} out of the list (CsqRemoveIrp in the cancel routine), and holds it now"
+                "{pass} took IRP {irp} out of the list (in the cancel routine, as CsqRemoveIrp does), and holds it now"
             ),
             (Kind::Done(irp), _) => {
                 let status = WithStatus(step.status);
@@ -193,7 +193,7 @@ impl fmt::Display for Sentence {
             ),
             (Kind::Rearm(irp), _) => write!(
                 f,
-                "{pass} put IRP {irp} back and set its cancel routine again (IoSetCancelRoutine(Irp, routine) in IoCsqInsertIrpEx), and holds it no longer"
+                "{pass} put IRP {irp} back and set its cancel routine again (IoSetCancelRoutine(Irp, routine), as in IoCsqInsertIrpEx), and holds it no longer"
             ),
             (Kind::Test(_) | Kind::Disarm(_) | Kind::Take(_), _) => {
                 write!(f, "{pass}{}", Finding(step))

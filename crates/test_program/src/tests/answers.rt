@@ -88,7 +88,7 @@ claim 1 line 9 p3
         true,
         "\
 p1 arm 0 found 0
-  p1 set the cancel routine of IRP 0 (IoSetCancelRoutine(Irp, routine) in IoCsqInsertIrpEx)
+  p1 set the cancel routine of IRP 0 (IoSetCancelRoutine(Irp, routine), as in IoCsqInsertIrpEx)
 line 3 refused LockHeld p1
   p1 has had the lock since line 2, inside an insert; its next step is test 0
 ",
