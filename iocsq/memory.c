@@ -40,11 +40,7 @@ static struct allocation **bucket_of(const void *at) {
     return &allocations[((uintptr_t)at >> 4) % BUCKETS];
 }
 
-static void *allocate(size_t size, ULONG tag, bool paged, const char *call) {
-    iocsq_expect_irql(paged ? APC_LEVEL : DISPATCH_LEVEL, call);
-    if (iocsq_is_scarce(call)) {
-        return NULL;
-    }
+static void *take_memory(size_t size, ULONG tag, bool paged) {
     struct allocation *made = malloc(sizeof *made);
     void *at = made ? malloc(size) : NULL;
     if (!at) {
@@ -60,25 +56,39 @@ static void *allocate(size_t size, ULONG tag, bool paged, const char *call) {
     return at;
 }
 
-PVOID NTAPI ExAllocatePoolWithTag(POOL_TYPE PoolType, SIZE_T NumberOfBytes, ULONG Tag) {
-    bool paged = PoolType == PagedPool;
-    void *at = allocate(NumberOfBytes, Tag, paged,
-                        paged ? "ExAllocatePool of paged memory" : "ExAllocatePool");
+/* What fills memory: zeros, or what isn't by chance the zeros that a driver must not rely on. */
+enum { ZEROS = 0, NO_ZEROS = 0xA5 };
+
+/* Memory that is filled with this. Where it may be refused, it is once memory is scarce. */
+static void *allocate(size_t size, ULONG tag, bool paged, int fill, bool may_fail) {
+    const char *call = paged ? "ExAllocatePool of paged memory" : "ExAllocatePool";
+    iocsq_expect_irql(paged ? APC_LEVEL : DISPATCH_LEVEL, call);
+    if (may_fail && iocsq_is_scarce(call)) {
+        return NULL;
+    }
+    void *at = take_memory(size, tag, paged);
     if (at) {
-        memset(at, 0xA5, NumberOfBytes); /* not by chance the zeros that a driver must not rely
-                                          * on */
+        memset(at, fill, size);
     }
     return at;
 }
 
+PVOID NTAPI ExAllocatePoolWithTag(POOL_TYPE PoolType, SIZE_T NumberOfBytes, ULONG Tag) {
+    return allocate(NumberOfBytes, Tag, PoolType & PagedPool, NO_ZEROS, true);
+}
+
+PVOID NTAPI ExAllocatePoolZero(POOL_TYPE PoolType, SIZE_T NumberOfBytes, ULONG Tag) {
+    return allocate(NumberOfBytes, Tag, PoolType & PagedPool, ZEROS, true);
+}
+
+PVOID NTAPI ExAllocatePoolWithQuotaTag(POOL_TYPE PoolType, SIZE_T NumberOfBytes, ULONG Tag) {
+    return allocate(NumberOfBytes, Tag, PoolType & PagedPool, NO_ZEROS,
+                    PoolType & POOL_QUOTA_FAIL_INSTEAD_OF_RAISE);
+}
+
 PVOID NTAPI ExAllocatePool2(POOL_FLAGS Flags, SIZE_T NumberOfBytes, ULONG Tag) {
-    bool paged = Flags & POOL_FLAG_PAGED;
-    void *at = allocate(NumberOfBytes, Tag, paged,
-                        paged ? "ExAllocatePool2 of paged memory" : "ExAllocatePool2");
-    if (at) {
-        memset(at, 0, NumberOfBytes);
-    }
-    return at;
+    return allocate(NumberOfBytes, Tag, (Flags & POOL_FLAG_PAGED) != 0,
+                    Flags & POOL_FLAG_UNINITIALIZED ? NO_ZEROS : ZEROS, true);
 }
 
 static struct allocation *take_allocation(const void *at) {

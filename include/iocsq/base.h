@@ -2,14 +2,14 @@
 #ifndef IOCSQ_BASE_H
 #define IOCSQ_BASE_H
 
-#include "numbers.h"
-#include "words.h"
-
 #include <stddef.h>
 #include <stdint.h>
 #include <stdio.h>
 #include <string.h>
 #include <wchar.h>
+
+#include "numbers.h"
+#include "words.h"
 
 #ifdef __cplusplus
 #define IOCSQ_ATOMIC(T) volatile T
@@ -33,8 +33,10 @@ typedef uint16_t USHORT, *PUSHORT;
 typedef int INT, *PINT;
 typedef unsigned UINT, *PUINT;
 typedef int32_t LONG, *PLONG;
+#define MAXUSHORT 0xffff
 #define MAXLONG 0x7fffffff
 #define MAXULONG 0xffffffff
+#define MAXULONG_PTR (~(ULONG_PTR)0)
 typedef uint32_t ULONG, *PULONG, ULONG32;
 typedef int64_t LONGLONG, *PLONGLONG, LONG64, *PLONG64;
 typedef uint64_t ULONGLONG, *PULONGLONG, ULONG64, *PULONG64;
@@ -59,6 +61,15 @@ typedef struct _GUID {
     UCHAR Data4[8];
 } GUID;
 typedef const GUID *LPCGUID;
+#ifndef INITGUID /* <initguid.h> has the one that defines it */
+#define DEFINE_GUID(name, l, w1, w2, b1, b2, b3, b4, b5, b6, b7, b8) extern const GUID name
+#endif
+#define Int32x32To64(a, b) ((LONGLONG)(LONG)(a) * (LONGLONG)(LONG)(b))
+#define UInt32x32To64(a, b) ((ULONGLONG)(ULONG)(a) * (ULONGLONG)(ULONG)(b))
+#define FlagOn(Flags, Flag) ((Flags) & (Flag))
+#define BooleanFlagOn(Flags, Flag) ((BOOLEAN)(((Flags) & (Flag)) != 0))
+#define SetFlag(Flags, Flag) ((Flags) |= (Flag))
+#define ClearFlag(Flags, Flag) ((Flags) &= ~(Flag))
 typedef struct _UNICODE_STRING {
     USHORT Length;
     USHORT MaximumLength;
@@ -94,6 +105,8 @@ VOID IocsqPagedCode(VOID); /* at DISPATCH_LEVEL: ends the program with a report 
 #define RTL_NUMBER_OF(x) (sizeof(x) / sizeof(*(x)))
 #define ARRAYSIZE(x) RTL_NUMBER_OF(x)
 #define FIELD_OFFSET(type, field) ((LONG)offsetof(type, field))
+#define RTL_FIELD_SIZE(type, field) (sizeof(((type *)0)->field))
+#define RTL_SIZEOF_THROUGH_FIELD(type, field) (offsetof(type, field) + RTL_FIELD_SIZE(type, field))
 #ifdef __cplusplus
 #define C_ASSERT(e) static_assert(e, #e)
 #else
@@ -170,13 +183,32 @@ FORCEINLINE PSINGLE_LIST_ENTRY PopEntryList(PSINGLE_LIST_ENTRY Head) {
 }
 
 /* ---- Memory ---- */
-typedef enum _POOL_TYPE { NonPagedPool = 0, PagedPool = 1, NonPagedPoolNx = 512 } POOL_TYPE;
+typedef enum _POOL_TYPE {
+    NonPagedPool = 0,
+    NonPagedPoolExecute = NonPagedPool,
+    PagedPool = 1,
+    NonPagedPoolCacheAligned = 4,
+    PagedPoolCacheAligned = 5,
+    NonPagedPoolNx = 512,
+    NonPagedPoolNxCacheAligned = 516
+} POOL_TYPE;
 PVOID NTAPI ExAllocatePoolWithTag(POOL_TYPE PoolType, SIZE_T NumberOfBytes, ULONG Tag);
+#define ExAllocatePool(PoolType, NumberOfBytes) \
+    ExAllocatePoolWithTag((PoolType), (NumberOfBytes), 0x656e6f4e)
+#define ExAllocatePoolUninitialized ExAllocatePoolWithTag
+PVOID NTAPI ExAllocatePoolZero(POOL_TYPE PoolType, SIZE_T NumberOfBytes, ULONG Tag);
+/* Without POOL_QUOTA_FAIL_INSTEAD_OF_RAISE it raises an exception rather than to return null: here
+ * it finds memory then. */
+PVOID NTAPI ExAllocatePoolWithQuotaTag(POOL_TYPE PoolType, SIZE_T NumberOfBytes, ULONG Tag);
 VOID NTAPI ExFreePoolWithTag(PVOID P, ULONG Tag);
 VOID NTAPI ExFreePool(PVOID P);
 typedef ULONG64 POOL_FLAGS;
-/* Filled with zeros. */
+/* Filled with zeros, unless the flags say POOL_FLAG_UNINITIALIZED. */
+#define ExFreePool2(P, Tag, Parameters, Count) \
+    ((void)(Parameters), (void)(Count), ExFreePoolWithTag((P), (Tag)))
 PVOID NTAPI ExAllocatePool2(POOL_FLAGS Flags, SIZE_T NumberOfBytes, ULONG Tag);
+#define RtlCopyBytes RtlCopyMemory
+#define RtlSecureZeroMemory RtlZeroMemory
 #define RtlZeroMemory(Destination, Length) memset((Destination), 0, (Length))
 #define RtlCopyMemory(Destination, Source, Length) memcpy((Destination), (Source), (Length))
 #define RtlMoveMemory(Destination, Source, Length) memmove((Destination), (Source), (Length))

@@ -14,6 +14,8 @@ KIRQL NTAPI KeGetCurrentIrql(VOID);
 KIRQL NTAPI KfRaiseIrql(KIRQL NewIrql);
 VOID NTAPI KeLowerIrql(KIRQL NewIrql);
 #define KeRaiseIrql(NewIrql, OldIrql) (*(OldIrql) = KfRaiseIrql(NewIrql))
+#define KeRaiseIrqlToDpcLevel() KfRaiseIrql(DISPATCH_LEVEL)
+#define KeGetCurrentProcessorNumber() ((ULONG)0)
 #define KeEnterCriticalRegion() ((void)0)
 #define KeLeaveCriticalRegion() ((void)0)
 #define KeEnterGuardedRegion() ((void)0)
@@ -74,6 +76,38 @@ VOID IocsqPoint(VOID); /* another thread may come between here */
     (IocsqPoint(), __sync_val_compare_and_swap((Target), (Comparand), (Value)))
 #define InterlockedCompareExchange64 InterlockedCompareExchange
 #define InterlockedCompareExchangePointer InterlockedCompareExchange
+#define InterlockedBitTestAndSet(Base, Bit) \
+    ((BOOLEAN)(InterlockedOr((Base), (LONG)(1U << ((Bit) & 31))) >> ((Bit) & 31) & 1))
+#define InterlockedBitTestAndReset(Base, Bit) \
+    ((BOOLEAN)(InterlockedAnd((Base), (LONG)~(1U << ((Bit) & 31))) >> ((Bit) & 31) & 1))
+/* Each is as strong as the one without the word. */
+#define InterlockedIncrementAcquire InterlockedIncrement
+#define InterlockedIncrementRelease InterlockedIncrement
+#define InterlockedIncrementNoFence InterlockedIncrement
+#define InterlockedDecrementAcquire InterlockedDecrement
+#define InterlockedDecrementRelease InterlockedDecrement
+#define InterlockedDecrementNoFence InterlockedDecrement
+#define InterlockedExchangeAcquire InterlockedExchange
+#define InterlockedExchangeNoFence InterlockedExchange
+#define InterlockedCompareExchangeAcquire InterlockedCompareExchange
+#define InterlockedCompareExchangeRelease InterlockedCompareExchange
+#define InterlockedCompareExchangeNoFence InterlockedCompareExchange
+#define IOCSQ_READ(Source, order) (IocsqPoint(), __atomic_load_n((Source), order))
+#define IOCSQ_WRITE(Target, Value, order) \
+    (IocsqPoint(), __atomic_store_n((Target), (Value), order))
+#define ReadNoFence(Source) IOCSQ_READ(Source, __ATOMIC_RELAXED)
+#define ReadAcquire(Source) IOCSQ_READ(Source, __ATOMIC_ACQUIRE)
+#define WriteNoFence(Target, Value) IOCSQ_WRITE(Target, Value, __ATOMIC_RELAXED)
+#define WriteRelease(Target, Value) IOCSQ_WRITE(Target, Value, __ATOMIC_RELEASE)
+#define ReadNoFence64 ReadNoFence
+#define ReadAcquire64 ReadAcquire
+#define WriteNoFence64 WriteNoFence
+#define WriteRelease64 WriteRelease
+#define ReadPointerNoFence ReadNoFence
+#define ReadPointerAcquire ReadAcquire
+#define WritePointerNoFence WriteNoFence
+#define WritePointerRelease WriteRelease
+#define YieldProcessor() IocsqPoint()
 
 /* Lists under a spin lock, at any IRQL up to DISPATCH_LEVEL. Null: the list was empty. */
 PLIST_ENTRY NTAPI ExInterlockedInsertHeadList(PLIST_ENTRY ListHead, PLIST_ENTRY ListEntry,
@@ -203,6 +237,8 @@ typedef struct _KTHREAD *PKTHREAD, *PRKTHREAD, *PETHREAD;
 extern POBJECT_TYPE *PsThreadType;
 PKTHREAD NTAPI KeGetCurrentThread(VOID);
 #define PsGetCurrentThread KeGetCurrentThread
+#define PsGetCurrentThreadId() ((HANDLE)KeGetCurrentThread())
+#define PsGetCurrentProcessId() ((HANDLE)(ULONG_PTR)4) /* the system's */
 KPRIORITY NTAPI KeSetPriorityThread(PKTHREAD Thread, KPRIORITY Priority);
 NTSTATUS NTAPI PsCreateSystemThread(PHANDLE ThreadHandle, ULONG DesiredAccess,
                                     POBJECT_ATTRIBUTES ObjectAttributes, HANDLE ProcessHandle,

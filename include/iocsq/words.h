@@ -13,7 +13,12 @@
 #define OPTIONAL
 #define FORCEINLINE static inline
 #define DECLSPEC_CACHEALIGN
+#define DECLSPEC_SELECTANY __attribute__((weak))
 #define NOTHING
+#ifndef __declspec /* clang may know it */
+#define __declspec(x)
+#endif
+#define __forceinline __inline__ __attribute__((__always_inline__))
 
 /* ---- sal.h: parameters ---- */
 #define _In_
@@ -43,6 +48,11 @@
 #define _Field_size_(x)
 #define _Field_size_bytes_(x)
 #define _Field_size_bytes_opt_(x)
+#define _In_range_(x, y)
+#define _Out_range_(x, y)
+#define _Field_range_(x, y)
+#define _In_bytecount_(x)
+#define _Out_bytecap_(x)
 
 /* ---- sal.h: results, and what holds before and after a call ---- */
 #define _Check_return_
@@ -65,9 +75,39 @@
 #define _At_(x, y)
 #define _Function_class_(x)
 #define _Use_decl_annotations_
+#define _Always_(x)
+#define _Pre_satisfies_(x)
+#define _Post_satisfies_(x)
 #define _Printf_format_string_
 #define _Analysis_assume_(x) ((void)0)
 #define __analysis_assume(x) ((void)0)
+
+/* ---- sal.h of the older WDK, whose words C++'s headers use as names ---- */
+#ifndef __cplusplus
+#define __in
+#define __in_opt
+#define __in_bcount(x)
+#define __in_bcount_opt(x)
+#define __in_ecount(x)
+#define __in_ecount_opt(x)
+#define __out
+#define __out_opt
+#define __out_bcount(x)
+#define __out_bcount_opt(x)
+#define __out_bcount_part(x, y)
+#define __out_ecount(x)
+#define __out_ecount_opt(x)
+#define __inout
+#define __inout_opt
+#define __inout_bcount(x)
+#define __inout_ecount(x)
+#define __deref_out
+#define __deref_out_opt
+#define __deref_inout
+#define __reserved
+#define __checkReturn
+#define __success(x)
+#endif
 
 /* ---- Locks and IRQL ---- */
 #define _IRQL_requires_(x)
@@ -109,5 +149,13 @@
 #define __drv_minIRQL(x)
 #define __drv_sameIRQL
 #define __drv_functionClass(x)
+#define __drv_requiresCancelIrql
+#define __drv_useCancelIRQL
+#define __drv_in(x)
+#define __drv_out(x)
+#define __drv_inTry
+#define __drv_mustHold(x)
+#define __drv_neverHold(x)
+#define __drv_maxFunctionIRQL(x)
 
 #endif

@@ -40,6 +40,61 @@ static void words(void) {
               CTL_CODE(FILE_DEVICE_UNKNOWN, 0x801, METHOD_OUT_DIRECT, FILE_READ_DATA)) == 2);
 }
 
+static void flags_and_bits(void) {
+    struct { ULONG first; UCHAR second[3]; } pair;
+    ULONG flags = 5;
+    LONG bits = 4, at = 1;
+    LONG64 wide = -3;
+    PVOID pointer = &bits;
+    CHECK(FlagOn(flags, 4) && BooleanFlagOn(flags, 4) == TRUE && !FlagOn(flags, 2));
+    CHECK(SetFlag(flags, 2) == 7 && ClearFlag(flags, 5) == 2);
+    CHECK(Int32x32To64(-2, 0x40000000) == -0x80000000LL);
+    CHECK(UInt32x32To64(0xffffffff, 2) == 0x1fffffffeULL && MAXULONG_PTR + 1 == 0);
+    CHECK(RTL_FIELD_SIZE(struct _GUID, Data4) == 8 && sizeof pair.second == 3);
+    CHECK(RTL_SIZEOF_THROUGH_FIELD(struct _GUID, Data3) == 8);
+    CHECK(!InterlockedBitTestAndSet(&bits, at) && InterlockedBitTestAndSet(&bits, at) && bits == 6);
+    CHECK(InterlockedBitTestAndReset(&bits, 2) && bits == 2 && !InterlockedBitTestAndSet(&bits, 31));
+    CHECK(InterlockedIncrementAcquire(&at) == 2 && InterlockedDecrementRelease(&at) == 1);
+    WriteRelease(&at, 9);
+    WriteNoFence64(&wide, 8);
+    CHECK(ReadAcquire(&at) == 9 && ReadNoFence64(&wide) == 8);
+    WritePointerRelease(&pointer, NULL);
+    CHECK(ReadPointerAcquire(&pointer) == NULL && InterlockedCompareExchangeNoFence(&at, 1, 9) == 9);
+    YieldProcessor();
+}
+
+static void threads_and_levels(void) {
+    KIRQL before = KeRaiseIrqlToDpcLevel();
+    CHECK(before == PASSIVE_LEVEL && KeGetCurrentIrql() == DISPATCH_LEVEL);
+    KeLowerIrql(before);
+    CHECK(KeGetCurrentProcessorNumber() == 0 && PsGetCurrentProcessId() != NULL);
+    CHECK(PsGetCurrentThreadId() == (HANDLE)PsGetCurrentThread());
+}
+
+/* ---- The pool ---- */
+static bool all_are(const UCHAR *bytes, UCHAR value) {
+    return bytes && bytes[0] == value && bytes[7] == value;
+}
+
+static void pools(void) {
+    PUCHAR zeros = ExAllocatePoolZero(NonPagedPoolNx, 8, 'tseT'), others = ExAllocatePool(PagedPool, 8);
+    PUCHAR flagged = ExAllocatePool2(POOL_FLAG_NON_PAGED | POOL_FLAG_UNINITIALIZED, 8, 'tseT');
+    CHECK(all_are(zeros, 0) && all_are(others, others[0]) && others[0] != 0);
+    CHECK(flagged && flagged[0] != 0);
+    RtlCopyBytes(others, zeros, 8);
+    RtlSecureZeroMemory(flagged, 8);
+    CHECK(all_are(others, 0) && all_are(flagged, 0));
+    ExFreePool(others);
+    ExFreePool2(flagged, 'tseT', NULL, 0);
+    ExFreePoolWithTag(zeros, 'tseT');
+    IocsqScarce(1);
+    PUCHAR raised = ExAllocatePoolWithQuotaTag(NonPagedPoolNx, 8, 'tseT');
+    CHECK(raised && !ExAllocatePoolWithQuotaTag(PagedPool | POOL_QUOTA_FAIL_INSTEAD_OF_RAISE, 8, 'a'));
+    CHECK(!ExAllocatePoolZero(PagedPool, 8, 'tseT') && !ExAllocatePoolUninitialized(PagedPool, 8, 'a'));
+    IocsqScarce(0);
+    ExFreePool(raised);
+}
+
 /* ---- Lists and locks ---- */
 static void lists(void) {
     SINGLE_LIST_ENTRY singles = { NULL }, single;
@@ -213,6 +268,9 @@ int main(int argc, char **argv) {
     begin(argc, argv);
     RUN(times);
     RUN(words);
+    RUN(flags_and_bits);
+    RUN(threads_and_levels);
+    RUN(pools);
     RUN(lists);
     RUN(locks_in_either_order);
     RUN(mutexes);
