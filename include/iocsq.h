@@ -7,6 +7,7 @@
  *     iocsq/base.h      types, strings, asserts, lists, memory
  *     iocsq/kernel.h    IRQL, locks, events, mutexes, semaphores, timers, DPCs, threads
  *     iocsq/io.h        drivers, devices, IRPs and their cancellation, remove locks, work items
+ *     iocsq/ex.h        resources, lists without a lock, timers of the executive, interrupts
  *     iocsq/queue.h     IO_CSQ and IoCsqXxx, with the driver's own callbacks
  *
  * The driver's callbacks keep the driver's list, as in the kernel. Beside it runs a queue of csq.h,
@@ -23,6 +24,7 @@
 #include "iocsq/base.h"
 #include "iocsq/kernel.h"
 #include "iocsq/io.h"
+#include "iocsq/ex.h"
 #include "iocsq/queue.h"
 
 #endif

@@ -101,6 +101,11 @@ VOID IocsqComplain(IOCSQ_REQUEST *Request, const char *Text);
 /* Ends the program with a report once it has run for so many seconds. */
 VOID IocsqLimit(ULONG Seconds);
 
+/* The device interrupts: calls the service routine of an interrupt that the driver has connected,
+ * the last one for 0, the one before it for 1, and returns whether it was the device's. FALSE if
+ * there is none. */
+BOOLEAN IocsqInterrupt(ULONG Number);
+
 /* IoCancelIrp of a request at random, also of one whose dispatch routine still runs, as another
  * thread may. */
 BOOLEAN IocsqCancelAny(VOID);

@@ -103,6 +103,13 @@ static void run_first_dpc(void) {
     iocsq_lock_state();
     running_dpc = NULL;
     iocsq_state_changed();
+    iocsq_unlock_state();
+    iocsq_free_deleted_timers();
+    iocsq_lock_state();
+}
+
+bool iocsq_is_under_way(const KDPC *dpc) {
+    return dpc->Queued || running_dpc == dpc;
 }
 
 static bool has_processor_work(void *of) {

@@ -119,6 +119,8 @@ VOID NTAPI IoDeleteDevice(PDEVICE_OBJECT DeviceObject) {
     iocsq_check_no_deferred(DeviceObject->DeviceExtension, device->extension_size,
                             "IoDeleteDevice of a device");
     iocsq_check_no_lookaside(DeviceObject->DeviceExtension, device->extension_size);
+    iocsq_check_no_resource(DeviceObject->DeviceExtension, device->extension_size,
+                            "IoDeleteDevice of a device");
     while (*at != DeviceObject) {
         at = &(*at)->NextDevice;
     }

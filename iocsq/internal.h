@@ -321,6 +321,16 @@ void iocsq_cover_end(UCHAR major, NTSTATUS status); /* of a request that was com
 /* No timer or DPC lies in there. */
 void iocsq_check_no_deferred(const void *from, size_t size, const char *what);
 void iocsq_end_deferred(void);
+bool iocsq_is_under_way(const KDPC *dpc); /* queued, or running: the state's lock is held */
+
+/* ---- interrupts.c ---- */
+void iocsq_free_deleted_timers(void); /* those whose callback has returned */
+void iocsq_check_timers_deleted(void);
+void iocsq_check_interrupts_disconnected(void);
+
+/* ---- resources.c ---- */
+/* That was not deleted lies in there. */
+void iocsq_check_no_resource(const void *from, size_t size, const char *what);
 
 /* ---- memory.c ---- */
 void iocsq_check_memory_freed(void);

@@ -165,7 +165,10 @@ VOID IocsqUnload(PDRIVER_OBJECT Driver) {
         Driver->DriverUnload(Driver);
     }
     iocsq_join_threads();
+    iocsq_check_interrupts_disconnected();
     iocsq_end_deferred();
+    iocsq_check_timers_deleted();
+    iocsq_check_no_resource(NULL, SIZE_MAX, "the driver was unloaded");
     if (Driver->DeviceObject) {
         iocsq_disagree(NULL, "the driver was unloaded, and a device of it is left");
     }

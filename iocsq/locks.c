@@ -327,6 +327,23 @@ PLIST_ENTRY NTAPI ExInterlockedRemoveHeadList(PLIST_ENTRY ListHead, PKSPIN_LOCK 
     return first;
 }
 
+PSINGLE_LIST_ENTRY NTAPI ExInterlockedPushEntryList(PSINGLE_LIST_ENTRY ListHead,
+                                                    PSINGLE_LIST_ENTRY ListEntry,
+                                                    PKSPIN_LOCK Lock) {
+    KIRQL before = KeAcquireSpinLockRaiseToDpc(Lock);
+    PSINGLE_LIST_ENTRY first = ListHead->Next;
+    PushEntryList(ListHead, ListEntry);
+    KeReleaseSpinLock(Lock, before);
+    return first;
+}
+
+PSINGLE_LIST_ENTRY NTAPI ExInterlockedPopEntryList(PSINGLE_LIST_ENTRY ListHead, PKSPIN_LOCK Lock) {
+    KIRQL before = KeAcquireSpinLockRaiseToDpc(Lock);
+    PSINGLE_LIST_ENTRY first = PopEntryList(ListHead);
+    KeReleaseSpinLock(Lock, before);
+    return first;
+}
+
 /* ---- Fast mutexes ---- */
 VOID NTAPI ExInitializeFastMutex(PFAST_MUTEX FastMutex) {
     begin_word(&FastMutex->Lock, "a fast mutex");

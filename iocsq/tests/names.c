@@ -47,19 +47,21 @@ static void flags_and_bits(void) {
     LONG64 wide = -3;
     PVOID pointer = &bits;
     CHECK(FlagOn(flags, 4) && BooleanFlagOn(flags, 4) == TRUE && !FlagOn(flags, 2));
-    CHECK(SetFlag(flags, 2) == 7 && ClearFlag(flags, 5) == 2);
+    CHECK(SetFlag(flags, 2U) == 7 && ClearFlag(flags, 5U) == 2);
     CHECK(Int32x32To64(-2, 0x40000000) == -0x80000000LL);
     CHECK(UInt32x32To64(0xffffffff, 2) == 0x1fffffffeULL && MAXULONG_PTR + 1 == 0);
     CHECK(RTL_FIELD_SIZE(struct _GUID, Data4) == 8 && sizeof pair.second == 3);
     CHECK(RTL_SIZEOF_THROUGH_FIELD(struct _GUID, Data3) == 8);
     CHECK(!InterlockedBitTestAndSet(&bits, at) && InterlockedBitTestAndSet(&bits, at) && bits == 6);
-    CHECK(InterlockedBitTestAndReset(&bits, 2) && bits == 2 && !InterlockedBitTestAndSet(&bits, 31));
+    CHECK(InterlockedBitTestAndReset(&bits, 2) && bits == 2);
+    CHECK(!InterlockedBitTestAndSet(&bits, 31) && bits < 0);
     CHECK(InterlockedIncrementAcquire(&at) == 2 && InterlockedDecrementRelease(&at) == 1);
     WriteRelease(&at, 9);
     WriteNoFence64(&wide, 8);
     CHECK(ReadAcquire(&at) == 9 && ReadNoFence64(&wide) == 8);
     WritePointerRelease(&pointer, NULL);
-    CHECK(ReadPointerAcquire(&pointer) == NULL && InterlockedCompareExchangeNoFence(&at, 1, 9) == 9);
+    CHECK(ReadPointerAcquire(&pointer) == NULL);
+    CHECK(InterlockedCompareExchangeNoFence(&at, 1, 9) == 9 && at == 1);
     YieldProcessor();
 }
 
@@ -77,7 +79,8 @@ static bool all_are(const UCHAR *bytes, UCHAR value) {
 }
 
 static void pools(void) {
-    PUCHAR zeros = ExAllocatePoolZero(NonPagedPoolNx, 8, 'tseT'), others = ExAllocatePool(PagedPool, 8);
+    PUCHAR zeros = ExAllocatePoolZero(NonPagedPoolNx, 8, 'tseT');
+    PUCHAR others = ExAllocatePool(PagedPool, 8);
     PUCHAR flagged = ExAllocatePool2(POOL_FLAG_NON_PAGED | POOL_FLAG_UNINITIALIZED, 8, 'tseT');
     CHECK(all_are(zeros, 0) && all_are(others, others[0]) && others[0] != 0);
     CHECK(flagged && flagged[0] != 0);
@@ -89,8 +92,10 @@ static void pools(void) {
     ExFreePoolWithTag(zeros, 'tseT');
     IocsqScarce(1);
     PUCHAR raised = ExAllocatePoolWithQuotaTag(NonPagedPoolNx, 8, 'tseT');
-    CHECK(raised && !ExAllocatePoolWithQuotaTag(PagedPool | POOL_QUOTA_FAIL_INSTEAD_OF_RAISE, 8, 'a'));
-    CHECK(!ExAllocatePoolZero(PagedPool, 8, 'tseT') && !ExAllocatePoolUninitialized(PagedPool, 8, 'a'));
+    POOL_TYPE fails = (POOL_TYPE)(PagedPool | POOL_QUOTA_FAIL_INSTEAD_OF_RAISE);
+    CHECK(raised && !ExAllocatePoolWithQuotaTag(fails, 8, 'tseT'));
+    CHECK(!ExAllocatePoolZero(PagedPool, 8, 'tseT') &&
+          !ExAllocatePoolUninitialized(PagedPool, 8, 'tseT'));
     IocsqScarce(0);
     ExFreePool(raised);
 }
@@ -155,6 +160,96 @@ static void mutexes(void) {
     KeInitializeMutex(&mutex, 0);
     KeInitializeSemaphore(&semaphore, 3, 4);
     CHECK(KeReadStateMutex(&mutex) == 1 && KeReadStateSemaphore(&semaphore) == 3);
+}
+
+/* ---- Resources, lists without a lock, timers, interrupts ---- */
+static void resources(void) {
+    ERESOURCE resource;
+    CHECK(ExInitializeResourceLite(&resource) == STATUS_SUCCESS);
+    CHECK(ExAcquireResourceSharedLite(&resource, TRUE) &&
+          ExAcquireResourceSharedLite(&resource, FALSE));
+    CHECK(ExIsResourceAcquiredSharedLite(&resource) == 2 &&
+          !ExAcquireResourceExclusiveLite(&resource, FALSE));
+    ExReleaseResourceLite(&resource);
+    ExReleaseResourceLite(&resource);
+    CHECK(ExIsResourceAcquiredSharedLite(&resource) == 0);
+    CHECK(ExAcquireResourceExclusiveLite(&resource, FALSE) &&
+          ExAcquireResourceSharedLite(&resource, TRUE));
+    CHECK(ExIsResourceAcquiredExclusiveLite(&resource) && ExIsResourceAcquiredLite(&resource) == 2);
+    ExConvertExclusiveToSharedLite(&resource);
+    CHECK(!ExIsResourceAcquiredExclusiveLite(&resource));
+    ExReleaseResourceLite(&resource);
+    ExReleaseResourceLite(&resource);
+    CHECK(ExDeleteResourceLite(&resource) == STATUS_SUCCESS);
+}
+
+static void lists_without_a_lock(void) {
+    SINGLE_LIST_ENTRY singles = { NULL }, single;
+    SLIST_HEADER head;
+    SLIST_ENTRY first, second;
+    KSPIN_LOCK lock;
+    KeInitializeSpinLock(&lock);
+    ExInitializeSListHead(&head);
+    CHECK(InterlockedPushEntrySList(&head, &first) == NULL &&
+          ExInterlockedPushEntrySList(&head, &second, &lock) == &first);
+    CHECK(ExQueryDepthSList(&head) == 2 && ExInterlockedPopEntrySList(&head, &lock) == &second);
+    CHECK(InterlockedFlushSList(&head) == &first && !InterlockedPopEntrySList(&head));
+    CHECK(ExInterlockedPushEntryList(&singles, &single, &lock) == NULL);
+    CHECK(ExInterlockedPopEntryList(&singles, &lock) == &single &&
+          ExInterlockedPopEntryList(&singles, &lock) == NULL);
+}
+
+static _Atomic int calls;
+static VOID NTAPI count_call(PEX_TIMER timer, PVOID context) {
+    (void)timer, (void)context;
+    calls++;
+}
+static VOID NTAPI count_deletion(PVOID context) {
+    (void)context;
+    calls += 10;
+}
+
+static void timers_of_the_executive(void) {
+    EXT_DELETE_PARAMETERS at_end;
+    PEX_TIMER timer = ExAllocateTimer(count_call, NULL, EX_TIMER_HIGH_RESOLUTION);
+    ExInitializeDeleteTimerParameters(&at_end);
+    at_end.DeleteCallback = count_deletion;
+    CHECK(!ExSetTimer(timer, -5 * 10000, 0, NULL) && ExSetTimer(timer, -10000, 0, NULL));
+    CHECK(KeWaitForSingleObject(timer, Executive, KernelMode, FALSE, NULL) == STATUS_SUCCESS);
+    KeFlushQueuedDpcs();
+    CHECK(calls == 1 && !ExCancelTimer(timer, NULL));
+    ExSetTimer(timer, -1000 * 10000, 0, NULL);
+    CHECK(ExCancelTimer(timer, NULL) && !ExDeleteTimer(timer, TRUE, TRUE, &at_end) && calls == 11);
+    timer = ExAllocateTimer(count_call, NULL, 0);
+    ExSetTimer(timer, -10000, 0, NULL);
+    ExDeleteTimer(timer, FALSE, FALSE, &at_end); /* it expires once more, and is deleted then */
+    while (calls != 22) {
+        IocsqPause(1000);
+    }
+}
+
+static BOOLEAN NTAPI serve(PKINTERRUPT interrupt, PVOID context) {
+    (void)interrupt;
+    ++*(int *)context;
+    return KeGetCurrentIrql() == 6;
+}
+static BOOLEAN NTAPI read_served(PVOID context) {
+    return KeGetCurrentIrql() == 6 && *(int *)context == 2;
+}
+
+static void interrupts(void) {
+    PKINTERRUPT interrupt;
+    int served = 0;
+    CHECK(!IocsqInterrupt(0));
+    CHECK(IoConnectInterrupt(&interrupt, serve, &served, NULL, 1, 5, 6, Latched, FALSE, 1, FALSE) ==
+          STATUS_SUCCESS);
+    CHECK(IocsqInterrupt(0) && IocsqInterrupt(0) && !IocsqInterrupt(1));
+    CHECK(KeSynchronizeExecution(interrupt, read_served, &served));
+    KIRQL before = KeAcquireInterruptSpinLock(interrupt);
+    CHECK(before == PASSIVE_LEVEL && KeGetCurrentIrql() == 6);
+    KeReleaseInterruptSpinLock(interrupt, before);
+    IoDisconnectInterrupt(interrupt);
+    CHECK(!IocsqInterrupt(0) && served == 2 && KeGetCurrentIrql() == PASSIVE_LEVEL);
 }
 
 /* ---- Memory, protection, names ---- */
@@ -274,6 +369,10 @@ int main(int argc, char **argv) {
     RUN(lists);
     RUN(locks_in_either_order);
     RUN(mutexes);
+    RUN(resources);
+    RUN(lists_without_a_lock);
+    RUN(timers_of_the_executive);
+    RUN(interrupts);
     RUN(lookaside_lists);
     RUN(rundown_protection);
     RUN(symbolic_links);

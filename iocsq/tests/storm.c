@@ -154,6 +154,8 @@ static void take_turn(struct user *u) {
         cancel(u, r);
     } else if (act == 28) {
         close_file(u, file);
+    } else if (act == 29) {
+        IocsqInterrupt(0);
     }
 }
 

@@ -1,0 +1,8 @@
+/* What parts.c leaves waiting: reads, until the device interrupts or the timer ends them. */
+#include "iocsq_test.h"
+
+static BOOLEAN Waits(PIRP Irp) {
+    return IoGetCurrentIrpStackLocation(Irp)->MajorFunction == IRP_MJ_READ;
+}
+extern const IOCSQ_POLICY DriverPolicy;
+const IOCSQ_POLICY DriverPolicy = { .Waits = Waits };
