@@ -36,6 +36,7 @@ NTSTATUS NTAPI IoCreateDevice(PDRIVER_OBJECT DriverObject, ULONG DeviceExtension
     made->object.Characteristics = DeviceCharacteristics;
     made->object.StackSize = 1;
     made->object.Flags = DO_DEVICE_INITIALIZING;
+    KeInitializeDeviceQueue(&made->object.DeviceQueue);
     made->object.NextDevice = DriverObject->DeviceObject;
     DriverObject->DeviceObject = &made->object;
     *DeviceObject = &made->object;

@@ -25,6 +25,8 @@ typedef NTSTATUS(NTAPI DRIVER_DISPATCH)(struct _DEVICE_OBJECT *DeviceObject, str
 typedef DRIVER_DISPATCH *PDRIVER_DISPATCH;
 typedef VOID(NTAPI DRIVER_CANCEL)(struct _DEVICE_OBJECT *DeviceObject, struct _IRP *Irp);
 typedef DRIVER_CANCEL *PDRIVER_CANCEL;
+typedef VOID(NTAPI DRIVER_STARTIO)(struct _DEVICE_OBJECT *DeviceObject, struct _IRP *Irp);
+typedef DRIVER_STARTIO *PDRIVER_STARTIO;
 typedef NTSTATUS(NTAPI IO_COMPLETION_ROUTINE)(struct _DEVICE_OBJECT *DeviceObject, struct _IRP *Irp,
                                               PVOID Context);
 typedef IO_COMPLETION_ROUTINE *PIO_COMPLETION_ROUTINE;
@@ -44,13 +46,16 @@ typedef struct _DRIVER_OBJECT {
     struct _DEVICE_OBJECT *DeviceObject;
     PDRIVER_EXTENSION DriverExtension;
     PDRIVER_UNLOAD DriverUnload;
+    PDRIVER_STARTIO DriverStartIo;
     PDRIVER_DISPATCH MajorFunction[IRP_MJ_MAXIMUM_FUNCTION + 1];
 } DRIVER_OBJECT, *PDRIVER_OBJECT;
 typedef struct _DEVICE_OBJECT {
     struct _DRIVER_OBJECT *DriverObject;
     struct _DEVICE_OBJECT *NextDevice;
     struct _DEVICE_OBJECT *AttachedDevice;
-    struct _IRP *CurrentIrp; /* the driver's alone */
+    struct _IRP *CurrentIrp; /* of StartIo, or the driver's alone */
+    KDEVICE_QUEUE DeviceQueue;
+    BOOLEAN StartIoNonCancelable; /* of IoSetStartIoAttributes */
     ULONG Flags;
     ULONG Characteristics;
     PVOID DeviceExtension;
@@ -183,7 +188,10 @@ typedef struct _IRP {
     PVOID UserBuffer;
     union {
         struct {
-            PVOID DriverContext[4];
+            __extension__ union { /* which C++ has no word for without a name */
+                KDEVICE_QUEUE_ENTRY DeviceQueueEntry;
+                PVOID DriverContext[4];
+            };
             PETHREAD Thread;
             PCHAR AuxiliaryBuffer;
             __extension__ struct { /* which C++ has no word for without a name */
@@ -208,6 +216,12 @@ BOOLEAN NTAPI IoCancelIrp(PIRP Irp);
 BOOLEAN NTAPI IoForwardIrpSynchronously(PDEVICE_OBJECT DeviceObject, PIRP Irp);
 #define PoCallDriver IofCallDriver
 #define PoStartNextPowerIrp(Irp) ((void)(Irp))
+VOID NTAPI IoStartPacket(PDEVICE_OBJECT DeviceObject, PIRP Irp, PULONG Key,
+                         PDRIVER_CANCEL CancelFunction);
+VOID NTAPI IoStartNextPacket(PDEVICE_OBJECT DeviceObject, BOOLEAN Cancelable);
+VOID NTAPI IoStartNextPacketByKey(PDEVICE_OBJECT DeviceObject, BOOLEAN Cancelable, ULONG Key);
+VOID NTAPI IoSetStartIoAttributes(PDEVICE_OBJECT DeviceObject, BOOLEAN DeferredStartIo,
+                                  BOOLEAN NonCancelable);
 VOID NTAPI IoAcquireCancelSpinLock(PKIRQL Irql);
 VOID NTAPI IoReleaseCancelSpinLock(KIRQL Irql);
 

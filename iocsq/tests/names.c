@@ -252,6 +252,25 @@ static void interrupts(void) {
     CHECK(!IocsqInterrupt(0) && served == 2 && KeGetCurrentIrql() == PASSIVE_LEVEL);
 }
 
+static void device_queues(void) {
+    KDEVICE_QUEUE queue;
+    KDEVICE_QUEUE_ENTRY entries[5] = { { .Inserted = TRUE } };
+    KIRQL before = KeRaiseIrqlToDpcLevel();
+    KeInitializeDeviceQueue(&queue);
+    CHECK(!KeInsertDeviceQueue(&queue, &entries[0]) && !entries[0].Inserted && queue.Busy);
+    CHECK(KeInsertByKeyDeviceQueue(&queue, &entries[1], 7) &&
+          KeInsertByKeyDeviceQueue(&queue, &entries[2], 3) &&
+          KeInsertByKeyDeviceQueue(&queue, &entries[3], 7) &&
+          KeInsertDeviceQueue(&queue, &entries[4]));
+    CHECK(!KeRemoveEntryDeviceQueue(&queue, &entries[0]));
+    CHECK(KeRemoveByKeyDeviceQueue(&queue, 4) == &entries[1]);
+    CHECK(KeRemoveEntryDeviceQueue(&queue, &entries[4]) && !entries[4].Inserted);
+    CHECK(KeRemoveByKeyDeviceQueue(&queue, 8) == &entries[2]); /* none is as high: the first */
+    CHECK(KeRemoveDeviceQueue(&queue) == &entries[3] && queue.Busy);
+    CHECK(KeRemoveDeviceQueue(&queue) == NULL && !queue.Busy);
+    KeLowerIrql(before);
+}
+
 /* ---- Memory, protection, names ---- */
 static void lookaside_lists(void) {
     NPAGED_LOOKASIDE_LIST list;
@@ -373,6 +392,7 @@ int main(int argc, char **argv) {
     RUN(lists_without_a_lock);
     RUN(timers_of_the_executive);
     RUN(interrupts);
+    RUN(device_queues);
     RUN(lookaside_lists);
     RUN(rundown_protection);
     RUN(symbolic_links);
