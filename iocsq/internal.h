@@ -43,6 +43,15 @@ struct iocsq_tail {
 
 struct iocsq_queue;
 
+/* An IRP that the I/O manager built for the driver. */
+struct iocsq_built {
+    PIO_STATUS_BLOCK result; /* null: it is none that the manager ends */
+    PKEVENT event;           /* null: none */
+    PVOID buffer;            /* the system buffer, or null */
+    PVOID output;            /* where its first bytes go, at most these; null: nowhere */
+    ULONG most;
+};
+
 /* An IRP, with what the checker knows of it: in memory of its own, so that an IRP that was
  * completed isn't read. */
 struct iocsq_irp {
@@ -51,7 +60,8 @@ struct iocsq_irp {
     uint32_t index;
     bool used;        /* with the next under the state's lock */
     uint32_t cancels; /* of IocsqCancelAny, under way: the IRP isn't used anew before they end */
-    bool own;  /* the driver allocated it */
+    bool own;  /* the driver allocated it, or had it built */
+    struct iocsq_built built;
     _Atomic uint32_t use; /* which of its uses this is: it is sent, allocated, freed */
     UCHAR major;
     PFILE_OBJECT file;
@@ -90,6 +100,7 @@ struct iocsq_irp *iocsq_irp_of_entry(const LIST_ENTRY *entry);      /* null: no 
 struct iocsq_irp *iocsq_irp_number(uint32_t index);
 uint32_t iocsq_irp_count(void);                                     /* none above was ever used */
 struct iocsq_irp *iocsq_new_irp(int locations, bool own);           /* null: all are under way */
+void iocsq_end_own(struct iocsq_irp *i); /* one of the driver's own: the state's lock is held */
 void iocsq_forget_irps(void); /* all that were used: none was ever */
 const char *iocsq_place_name(const struct iocsq_irp *i);
 /* Calls the driver at the IRP's next location. */
@@ -98,6 +109,11 @@ NTSTATUS iocsq_dispatch(PDEVICE_OBJECT device, struct iocsq_irp *i);
 void iocsq_check_pending(const struct iocsq_irp *i); /* its dispatch routine's answer and its
                                                       * completion agree */
 void iocsq_check_untouched(struct iocsq_irp *i);     /* since its completion */
+
+/* ---- builders.c ---- */
+bool iocsq_is_built(const struct iocsq_irp *i); /* the I/O manager ends it */
+void iocsq_end_built(struct iocsq_irp *i);      /* once all completion routines let it go on */
+void iocsq_free_built(struct iocsq_irp *i);
 
 /* ---- buffers.c ---- */
 /* What a sender gives with a request, and by which method: of METHOD_BUFFERED and so on. */

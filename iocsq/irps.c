@@ -256,7 +256,8 @@ static void check_completion(struct iocsq_irp *i) {
         iocsq_disagree(i, "IoCompleteRequest of irp %u, which still has a cancel routine",
                        i->index);
     }
-    if (i->irp.CurrentLocation > i->irp.StackCount) {
+    /* One that was built goes on from the driver, which has no location, to the I/O manager. */
+    if (i->irp.CurrentLocation > i->irp.StackCount + iocsq_is_built(i)) {
         iocsq_disagree(i, "IoCompleteRequest of irp %u, which has no current stack location",
                        i->index);
     }
@@ -360,6 +361,10 @@ VOID NTAPI IofCompleteRequest(PIRP Irp, CCHAR PriorityBoost) {
     if (!go_up(i)) {
         return;
     }
+    if (i->own && iocsq_is_built(i)) {
+        iocsq_end_built(i);
+        return;
+    }
     if (i->own) {
         iocsq_disagree(i, "irp %u is of the driver's own, and no completion routine kept it "
                           "(STATUS_MORE_PROCESSING_REQUIRED)", i->index);
@@ -425,6 +430,10 @@ static struct iocsq_irp *own_irp(PIRP irp, const char *call) {
         iocsq_disagree(i, "%s of irp %u, which %s", call, i->index,
                        i->own ? "was freed before" : "is another's");
     }
+    if (iocsq_is_built(i)) {
+        iocsq_disagree(i, "%s of irp %u, which the I/O manager built with an event: it frees it",
+                       call, i->index);
+    }
     if (i->stay || irp->CurrentLocation <= irp->StackCount) {
         iocsq_disagree(i, "%s of irp %u, which %s", call, i->index,
                        i->stay ? iocsq_place_name(i) : "was sent, and not completed");
@@ -432,15 +441,20 @@ static struct iocsq_irp *own_irp(PIRP irp, const char *call) {
     return i;
 }
 
+void iocsq_end_own(struct iocsq_irp *i) {
+    i->use++;
+    i->pending = (uint64_t)i->use << 32;
+    i->place = IOCSQ_DONE;
+    iocsq_free_built(i);
+    take_from_driver(i);
+    i->used = false;
+}
+
 VOID NTAPI IoFreeIrp(PIRP Irp) {
     iocsq_lock_state();
     struct iocsq_irp *i = own_irp(Irp, "IoFreeIrp");
     iocsq_log(i, "IoFreeIrp(irp %u)", i->index);
-    i->use++;
-    i->pending = (uint64_t)i->use << 32;
-    i->place = IOCSQ_DONE;
-    take_from_driver(i);
-    i->used = false;
+    iocsq_end_own(i);
     iocsq_unlock_state();
 }
 
