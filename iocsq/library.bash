@@ -15,7 +15,7 @@ iocsq_objects() {
   local folder=$work/objects/$name
   if [[ ! -d $folder ]]; then
     mkdir -p "$folder.new/tests"
-    for file in "$top"/iocsq/*.c "$top"/iocsq/tests/{storm,patient,bounded,kernel,names,coverage,explore,priorities}.c; do
+    for file in "$top"/iocsq/*.c "$top"/iocsq/tests/{storm,patient,bounded,kernel,names,misuse,coverage,explore,priorities}.c; do
       object=${file#"$top/iocsq/"}
       "$@" -std=c11 "${warnings[@]}" -I"$top/include" -I"$top/iocsq" -c "$file" -o "$folder.new/${object%.c}.o" ||
         return 1
