@@ -5,7 +5,7 @@ warnings=(-Wall -Wextra -Wpedantic -Wshadow -Wconversion -Wno-multichar -Werror)
 
 # The right drivers: those that show one thing each, the examples, and those of usual shapes, written for Windows.
 drivers=(drivers/{reports,priority,stages,removal,ticks,workers,counted,requests,filter,keys,slots,later,manners,busy}
-  drivers/{handed,calls,parts,sends} examples/{serial,pipe,inverted})
+  drivers/{handed,calls,parts,sends,locked} examples/{serial,pipe,inverted})
 usual=(usual/{again,current,event,idle,interrupt,pass,peek,poll,port,startio,thread,transfer,two})
 
 # Compiles the checker once for each compiler and flags, and prints the folder with its objects; those of the tests are

@@ -147,7 +147,9 @@ static NTSTATUS NTAPI Cleanup(PDEVICE_OBJECT DeviceObject, PIRP Irp) {
 /* ---- Its beginning and end ---- */
 static VOID NTAPI Unload(PDRIVER_OBJECT DriverObject) {
     PEXTENSION Extension = DriverObject->DeviceObject->DeviceExtension;
+#if WRONG != 8
     IoDisconnectInterrupt(Extension->Interrupt);
+#endif
     KeFlushQueuedDpcs();
 #if WRONG == 5
     ExCancelTimer(Extension->Timer, NULL);

@@ -121,3 +121,19 @@ run_check() {
   expect "check: a file that can't be written" refused "can't be written" "$top/iocsq/check" --junit "$work/none/x" \
     "$storm"
 }
+
+# A report as a page: each call in its thread's column, and what the report says last.
+run_drawing() {
+  local report=$work/drawn_report
+  if ! iocsq_build "$work/storm" drivers/reports 5 "$@" 2>"$work/errors"; then
+    fail "draw: not compiled" "$work/errors"
+    return
+  fi
+  storm_once "$work/storm" 1 >"$report" 2>&1
+  "$top/iocsq/draw" "$report" >"$work/page.html" 2>"$work/errors"
+  expect "draw: a row for each call, and one for the report" test \
+    "$(grep -c '^<tr class' "$work/page.html")" -eq "$(($(grep -oE '^ {1,7}[0-9]+ t[0-9]+ ' "$report" | sort -u | wc -l) + 1))"
+  expect "draw: what the report says" grep -qF "$(sed -n 's/^iocsq: t[0-9]*: //p' "$report")" "$work/page.html"
+  expect "draw: by standard input" cmp "$work/page.html" <("$top/iocsq/draw" - <"$report")
+  expect "draw: no report" refused "there is no line" "$top/iocsq/draw" "$work/page.html"
+}
