@@ -273,7 +273,8 @@ uint64_t csq_requests_now(void);
 /* Starts a thread that makes the calls of csq_requests_tick in time, with csq_requests_now, so that
  * deadlines are times of that clock. It calls the events, and takes no signals.
  * csq_requests_free ends it.
- * CSQ_NOT_EMPTY (the queue has one); CSQ_NO_MEMORY (the system has no thread). */
+ * CSQ_NOT_EMPTY (the queue has one, or is being freed); CSQ_NO_MEMORY (the system has no
+ * thread). */
 CSQ_NODISCARD uint32_t csq_requests_start_clock(struct csq_requests *requests);
 
 /* ---- Connections that go ---- */

@@ -252,6 +252,25 @@ static void a_free_that_is_refused_ends_the_clock(uint32_t list) {
     IS(csq_requests_free(&requests), CSQ_OK);
 }
 
+static struct csq_requests *going;
+static uint32_t code_of_start;
+
+static void start_a_clock(void *context, const struct csq_ending *ending) {
+    (void)context;
+    (void)ending;
+    code_of_start = csq_requests_start_clock(going);
+}
+
+/* A clock that an event of the free started would look at a queue that isn't there. */
+static void an_event_of_the_free_starts_no_clock(uint32_t list) {
+    const struct csq_requests_events events = { NULL, start_a_clock, NULL };
+    going = made(2, list, &events);
+    submit(going, 1, 0, 0);
+    code_of_start = UNWRITTEN;
+    IS(csq_requests_free(&going), CSQ_OK);
+    IS(code_of_start, CSQ_NOT_EMPTY);
+}
+
 /* A signal that comes where all other threads block it stays pending. */
 static void the_clock_takes_no_signals(uint32_t list) {
     struct csq_requests *requests = made(2, list, NULL);
@@ -330,6 +349,7 @@ int main(void) {
     RUN_BOTH(who_is_woken_and_cannot_use_it_passes_it_on);
     RUN_BOTH(the_clock_cancels_in_time);
     RUN_BOTH(a_free_that_is_refused_ends_the_clock);
+    RUN_BOTH(an_event_of_the_free_starts_no_clock);
     RUN_BOTH(the_clock_takes_no_signals);
     RUN_BOTH(a_batch_leaves_the_others_share);
     return DONE();
