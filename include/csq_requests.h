@@ -177,16 +177,17 @@ CSQ_NODISCARD uint32_t csq_requests_submit(struct csq_requests *requests, void *
  * submit->milliseconds, and that sets a deadline if submit->due is one: at that time, by the clock
  * of csq_requests_tick, the request is cancelled. A removal from the list, an end of a request,
  * csq_requests_close and a cleanup wake those that wait. They come in no order, and a submit that
- * doesn't wait may come first. A drain doesn't wait for them. The codes of csq_requests_submit, in
- * their order. */
+ * doesn't wait may come first. A drain doesn't wait for them. *submit may be a part of what its
+ * value points to, as *name may. The codes of csq_requests_submit, in their order. */
 CSQ_NODISCARD uint32_t csq_requests_submit_with(struct csq_requests *requests,
                                                 const struct csq_submit *submit,
                                                 struct csq_irp *name);
 
 /* Submits `count` values, each as csq_requests_submit_with does, under one lock as long as none
  * waits and no event is called, and stops at the first that is refused. Only the first waits for
- * room. Stores in *submitted how many there are, and their names in the first of `names`, which are
- * no part of what the values point to. Returns the code of the one that was refused, or CSQ_OK. */
+ * room. Stores in *submitted how many there are, and their names in the first of `names`. Neither
+ * `submits` nor `names` are a part of what the values point to. Returns the code of the one that
+ * was refused, or CSQ_OK. */
 CSQ_NODISCARD uint32_t csq_requests_submit_many(struct csq_requests *requests,
                                                 const struct csq_submit *submits, uint32_t count,
                                                 struct csq_irp *names, uint32_t *submitted);
