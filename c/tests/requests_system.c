@@ -49,8 +49,8 @@ static void freed(void *block) {
 
 /* The clock returns the last nanosecond of a second, long ago, so that each time limit is over. */
 static unsigned looks;
+static struct timespec still = { 7, 999999999 };
 static int read_clock(clockid_t clock, struct timespec *now) {
-    const struct timespec still = { 7, 999999999 };
     *now = still;
     looks++;
     return clock == CLOCK_MONOTONIC ? 0 : -1;
@@ -161,11 +161,14 @@ static void a_time_ends_so_many_milliseconds_later(void) {
     }
 }
 
-/* The end of a wait is a time: less than a second of nanoseconds. */
+/* The end of a wait is a time: less than a second of nanoseconds, from whichever time on. */
 static void the_end_of_a_wait_is_a_time(void) {
+    const struct timespec before = still;
     for (uint32_t milliseconds = 1; milliseconds < 3000; milliseconds++) {
         CHECK(requests_limit_of(milliseconds).end.tv_nsec < 1000000000);
+        still.tv_nsec = (long)(milliseconds % 7) * 100000000;
     }
+    still = before;
 }
 
 /* A thread that waits looks at the clock once, so that no wake gives it more time. */
