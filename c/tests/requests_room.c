@@ -144,21 +144,44 @@ static void each_act_wakes_who_waits_for_room(uint32_t list) {
     }
 }
 
-/* A cleanup wakes those of its file object that wait for a number, too. */
+/* A cleanup wakes those of its file object that wait for a number, too, whoever else waits for
+ * one. */
 static void a_cleanup_wakes_who_waits_for_a_number(uint32_t list) {
     struct csq_requests *requests = narrow(list, 0);
     struct csq_request taken[2];
-    struct submitter submitter;
+    struct submitter submitters[3];
     for (int at = 0; at < 2; at++) {
         submit(requests, at, 1, 0);
         IS(next(requests, 1, &taken[at]), (uint32_t)at);
     }
-    start(&submitter, requests, 3, 0);
-    until_it_waits(requests, CSQ_ANY, 1);
+    for (uint32_t at = 0; at < 3; at++) {
+        start(&submitters[at], requests, 3, at == 1 ? 0 : 2);
+        until_it_waits(requests, CSQ_ANY, at + 1);
+    }
     IS(csq_requests_cleanup(requests, 0, 0), CSQ_OK);
-    end_of(&submitter, CSQ_FILE_CLOSED);
+    end_of(&submitters[1], CSQ_FILE_CLOSED);
+    csq_requests_close(requests);
+    end_of(&submitters[0], CSQ_CLOSED);
+    end_of(&submitters[2], CSQ_CLOSED);
     IS(csq_requests_complete(requests, &taken[0], 0), CSQ_OK);
     finish(requests, &taken[1]);
+}
+
+/* Where the list is full, and numbers are free, a removal makes room. */
+static void a_removal_wakes_who_waits_for_the_list(uint32_t list) {
+    struct csq_requests *requests = NULL;
+    struct csq_size size = size_of(3, FILES, list);
+    struct submitter submitter;
+    struct csq_request taken;
+    size.limit = 1;
+    IS(csq_requests_new(&requests, &size, NULL, NULL), CSQ_OK);
+    submit(requests, 1, 0, 0);
+    start(&submitter, requests, 2, 1);
+    until_it_waits(requests, CSQ_ANY, 1);
+    IS(next(requests, 0, &taken), 1);
+    end_of(&submitter, CSQ_OK);
+    IS(csq_requests_complete(requests, &taken, 0), CSQ_OK);
+    IS(csq_requests_free(&requests), CSQ_OK);
 }
 
 /* Once each number is past its last life all who wait are told, one by another. */
@@ -419,6 +442,7 @@ int main(void) {
     RUN_BOTH(a_submit_waits_for_its_time);
     RUN_BOTH(each_act_wakes_who_waits_for_room);
     RUN_BOTH(a_cleanup_wakes_who_waits_for_a_number);
+    RUN_BOTH(a_removal_wakes_who_waits_for_the_list);
     RUN_BOTH(all_learn_that_the_lives_are_spent);
     RUN_BOTH(who_is_woken_and_cannot_use_it_passes_it_on);
     RUN_BOTH(who_is_woken_for_nothing_wakes_nobody);
