@@ -1,7 +1,8 @@
 /* The clock of csq_requests.h, which is a thread. */
+#include "../requests/requests.h"
 #include "requests_check.h"
 
-#include <pthread.h>
+#include <poll.h>
 #include <sched.h>
 #include <signal.h>
 #include <unistd.h>
@@ -71,6 +72,53 @@ static void an_event_of_the_free_starts_no_clock(uint32_t list) {
     IS(code_of_start, CSQ_NOT_EMPTY);
 }
 
+/* The free comes while the clock is in an event, so that it doesn't sleep when it is to end. */
+static int is_in_event;
+
+static void wait_for_the_free(void *context, const struct csq_ending *ending) {
+    const uint64_t began = csq_requests_now();
+    uint32_t clock = REQUESTS_CLOCK_RUNS;
+    (void)context;
+    (void)ending;
+    while (clock != REQUESTS_CLOCK_ENDS && csq_requests_now() - began < LONG) {
+        requests_lock(going);
+        is_in_event = 1;
+        clock = going->clock;
+        requests_unlock(going);
+        sched_yield();
+    }
+}
+
+static void a_clock_that_is_in_an_event_ends_too(uint32_t list) {
+    const struct csq_requests_events events = { NULL, wait_for_the_free, NULL };
+    int is_on = 0;
+    going = made(2, list, &events);
+    is_in_event = 0;
+    submit_until(going, 1, 0, 1);
+    IS(csq_requests_start_clock(going), CSQ_OK);
+    while (!is_on) {
+        requests_lock(going);
+        is_on = is_in_event;
+        requests_unlock(going);
+        sched_yield();
+    }
+    IS(csq_requests_free(&going), CSQ_OK);
+}
+
+/* What is to be done once the mutex is free comes before the clock's sleep. */
+static void the_clock_tells_that_there_is_room(uint32_t list) {
+    struct csq_requests *requests = made(1, list, NULL);
+    struct pollfd room = { -1, POLLIN, 0 };
+    struct csq_irp name = { 0, 0 };
+    IS(csq_requests_room_fd(requests, CSQ_ANY, &room.fd), CSQ_OK);
+    submit_until(requests, 1, 0, csq_requests_now() + SHORT);
+    IS(csq_requests_submit(requests, number(2), 0, 0, &name), CSQ_FULL);
+    IS((unsigned)poll(&room, 1, 0), 0);
+    IS(csq_requests_start_clock(requests), CSQ_OK);
+    IS((unsigned)poll(&room, 1, LONG), 1);
+    IS(csq_requests_free(&requests), CSQ_OK);
+}
+
 /* A signal that comes where all other threads block it stays pending. */
 static void the_clock_takes_no_signals(uint32_t list) {
     struct csq_requests *requests = made(2, list, NULL);
@@ -80,6 +128,7 @@ static void the_clock_takes_no_signals(uint32_t list) {
     sigaddset(&one, SIGUSR1);
     IS(csq_requests_start_clock(requests), CSQ_OK);
     IS((unsigned)pthread_sigmask(SIG_BLOCK, &one, &before), 0);
+    IS((unsigned)sigismember(&before, SIGUSR1), 0); /* the thread that starts it takes them still */
     IS((unsigned)kill(getpid(), SIGUSR1), 0);
     sched_yield();
     IS((unsigned)sigpending(&pending), 0);
@@ -93,6 +142,8 @@ int main(void) {
     RUN_BOTH(the_clock_cancels_in_time);
     RUN_BOTH(a_free_that_is_refused_ends_the_clock);
     RUN_BOTH(an_event_of_the_free_starts_no_clock);
+    RUN_BOTH(a_clock_that_is_in_an_event_ends_too);
+    RUN_BOTH(the_clock_tells_that_there_is_room);
     RUN_BOTH(the_clock_takes_no_signals);
     return DONE();
 }
