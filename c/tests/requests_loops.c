@@ -176,6 +176,8 @@ static void a_drain_that_nobody_waits_for_tells_once(uint32_t list) {
     IS(csq_requests_put_back(requests, &taken[0], 0), CSQ_FILE_CLOSED);
     IS(csq_requests_complete(requests, &taken[0], 0), CSQ_OK);
     IS(one.told, 2);
+    IS(one.quiet.file, 0);
+    IS(one.quiet.why, CSQ_WHY_CLEANUP);
     IS(csq_requests_cleanup_start(requests, 0, &one.quiet), CSQ_OK);
     IS(csq_requests_cleanup_start(requests, CSQ_ANY, &one.quiet), CSQ_UNKNOWN_FILE);
     IS(csq_requests_free(&requests), CSQ_OK);
