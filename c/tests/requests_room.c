@@ -437,8 +437,28 @@ static void a_write_that_comes_late_is_read(uint32_t list) {
     IS(csq_requests_free(&requests), CSQ_OK);
 }
 
+/* If both have come by then, the next that finds none reads both. */
+static void late_writes_are_read_at_once(uint32_t list) {
+    struct csq_requests *requests = made(2, list, NULL);
+    struct requests_fd *fd = &requests_file(requests, CSQ_ANY)->fds[REQUESTS_LISTED];
+    struct pollfd one = { -1, POLLIN, 0 };
+    struct csq_request taken;
+    IS(csq_requests_fd(requests, CSQ_ANY, &one.fd), CSQ_OK);
+    requests_lock(requests);
+    for (int turn = 0; turn < 2; turn++) {
+        requests_raise(requests, fd);
+        requests_lower(fd);
+    }
+    requests_unlock(requests);
+    IS((unsigned)poll(&one, 1, 0), 1);
+    IS(csq_requests_next(requests, CSQ_ANY, 0, &taken), CSQ_NONE);
+    IS((unsigned)poll(&one, 1, 0), 0);
+    IS(csq_requests_free(&requests), CSQ_OK);
+}
+
 int main(void) {
     RUN_BOTH(a_write_that_comes_late_is_read);
+    RUN_BOTH(late_writes_are_read_at_once);
     RUN_BOTH(a_submit_waits_for_its_time);
     RUN_BOTH(each_act_wakes_who_waits_for_room);
     RUN_BOTH(a_cleanup_wakes_who_waits_for_a_number);
