@@ -155,7 +155,9 @@ void csq_requests_close(struct csq_requests *requests);
 
 /* Ends the queue's clock if it has one (csq_requests_start_clock), closes the queue, completes each
  * request that is listed as cancelled, with the events, and frees the queue, which no other thread
- * uses any more. *requests is NULL then. Of NULL there CSQ_OK, as free(NULL) has it.
+ * uses any more. (That a drain is over doesn't say so: the call that ended the last request may
+ * not have returned. Join the thread.) *requests is NULL then. Of NULL there CSQ_OK, as free(NULL)
+ * has it.
  * CSQ_HOLDING: requests are taken. The queue is closed and has no clock then, and what was listed
  * is completed, but nothing is freed. */
 CSQ_NODISCARD uint32_t csq_requests_free(struct csq_requests **requests);
