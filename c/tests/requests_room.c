@@ -227,6 +227,26 @@ static void who_is_woken_and_cannot_use_it_passes_it_on(uint32_t list) {
     IS(csq_requests_free(&requests), CSQ_OK);
 }
 
+/* Of two that wait for one file object one is woken, and finds that no number is free: then the
+ * other waits for a number too. */
+static void who_has_to_wait_elsewhere_wakes_the_next(uint32_t list) {
+    struct csq_requests *requests = narrow(list, 0);
+    struct submitter submitters[2];
+    struct csq_request taken;
+    submit(requests, 1, 0, 0);
+    start(&submitters[0], requests, 2, 0);
+    start(&submitters[1], requests, 3, 0);
+    until_it_waits(requests, 0, 2);
+    submit(requests, 4, 1, 0);
+    IS(next(requests, 0, &taken), 1);
+    until_it_waits(requests, CSQ_ANY, 2);
+    csq_requests_close(requests);
+    end_of(&submitters[0], CSQ_CLOSED);
+    end_of(&submitters[1], CSQ_CLOSED);
+    IS(csq_requests_complete(requests, &taken, 0), CSQ_OK);
+    IS(csq_requests_free(&requests), CSQ_OK);
+}
+
 /* Two wait for the same room: one that is woken and finds none sleeps again. Otherwise they would
  * wake each other for ever. */
 static void who_is_woken_for_nothing_wakes_nobody(uint32_t list) {
@@ -465,6 +485,7 @@ int main(void) {
     RUN_BOTH(a_removal_wakes_who_waits_for_the_list);
     RUN_BOTH(all_learn_that_the_lives_are_spent);
     RUN_BOTH(who_is_woken_and_cannot_use_it_passes_it_on);
+    RUN_BOTH(who_has_to_wait_elsewhere_wakes_the_next);
     RUN_BOTH(who_is_woken_for_nothing_wakes_nobody);
     RUN_BOTH(a_submit_may_lie_in_its_value);
     RUN_BOTH(a_batch_waits_for_its_first_alone);

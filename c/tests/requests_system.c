@@ -78,6 +78,28 @@ static int read_clock(clockid_t clock, struct timespec *now) {
 #define pthread_cond_destroy(...) given(SIGNAL, (uint32_t)pthread_cond_destroy(__VA_ARGS__))
 #define pthread_mutex_destroy(...) given(MUTEX, (uint32_t)pthread_mutex_destroy(__VA_ARGS__))
 
+/* How often the mutex was taken, and what that was at the last look at the ledger. A sleep comes
+ * under the lock of a look: what is done in between would wake nobody. */
+static unsigned long locks, locks_of_look, sleeps, late_sleeps;
+
+static int locked(int code) {
+    if (code == 0) {
+        locks++;
+    }
+    return code;
+}
+
+#define pthread_mutex_lock(mutex) locked(pthread_mutex_lock(mutex))
+#define pthread_mutex_trylock(mutex) locked(pthread_mutex_trylock(mutex))
+#define LOOK(call) (locks_of_look = locks, (call))
+#define csq_ledger_begin(...) LOOK(csq_ledger_begin(__VA_ARGS__))
+#define csq_ledger_take(...) LOOK(csq_ledger_take(__VA_ARGS__))
+#define csq_ledger_drain_next(...) LOOK(csq_ledger_drain_next(__VA_ARGS__))
+#define csq_ledger_next_due(...) LOOK(csq_ledger_next_due(__VA_ARGS__))
+#define SLEEP(call) (sleeps++, late_sleeps += locks_of_look != locks, (call))
+#define pthread_cond_wait(...) SLEEP(pthread_cond_wait(__VA_ARGS__))
+#define pthread_cond_timedwait(...) SLEEP(pthread_cond_timedwait(__VA_ARGS__))
+
 #include "../requests/calls.c"
 #include "../requests/ends.c"
 #include "../requests/make.c"
@@ -189,6 +211,36 @@ static void a_limit_is_from_the_call_on(uint32_t list) {
     IS(csq_requests_free(&requests), CSQ_OK);
 }
 
+static void until_the_clock_sleeps(struct csq_requests *requests) {
+    uint64_t wakes = 0;
+    while (wakes == 0) {
+        requests_lock(requests);
+        wakes = requests->wakes;
+        requests_unlock(requests);
+        sched_yield();
+    }
+}
+
+/* Of a worker, a submit, a drain and the clock. */
+static void each_sleep_follows_a_look(uint32_t list) {
+    struct csq_requests *requests = made(1, list, NULL);
+    const struct csq_submit how = { number(2), 0, 0, SHORT, 0 };
+    struct csq_irp name = { 0, 0 };
+    struct csq_request taken;
+    sleeps = late_sleeps = 0;
+    IS(csq_requests_next(requests, 0, SHORT, &taken), CSQ_NONE);
+    submit(requests, 1, 0, 0);
+    IS(csq_requests_submit_with(requests, &how, &name), CSQ_FULL);
+    IS(next(requests, 0, &taken), 1);
+    IS(csq_requests_drain(requests, 0, SHORT), CSQ_HOLDING);
+    IS(csq_requests_start_clock(requests), CSQ_OK);
+    until_the_clock_sleeps(requests);
+    IS(csq_requests_complete(requests, &taken, 0), CSQ_OK);
+    IS(csq_requests_free(&requests), CSQ_OK);
+    CHECK(sleeps >= 4);
+    IS(late_sleeps, 0);
+}
+
 /* What the calls for event loops and the clock take is given back with the queue. */
 static void what_is_refused_later_is_told(uint32_t list) {
     struct csq_requests *requests = made(2, list, NULL);
@@ -216,5 +268,6 @@ int main(void) {
     RUN(a_time_ends_so_many_milliseconds_later);
     RUN(the_end_of_a_wait_is_a_time);
     RUN_BOTH(a_limit_is_from_the_call_on);
+    RUN_BOTH(each_sleep_follows_a_look);
     return DONE();
 }
