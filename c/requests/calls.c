@@ -50,8 +50,9 @@ static uint32_t list_later(struct csq_requests *it, const struct csq_submit *sub
         it->stats.waits_for_room += requests_pause(it, &limit, &room->room, &room->wanting);
         code = list_it(it, submit, name);
         room = room_for(it, file, code);
-        /* One that was woken and makes no use of it passes it on. */
-        if (code != CSQ_OK && (limit.over || room != waited) && waited->wanting > 0) {
+        /* One that was woken and makes no use of it passes it on. (If it is refused for want of the
+         * same room, the others would be.) */
+        if (code != CSQ_OK && room != waited && waited->wanting > 0) {
             pthread_cond_signal(&waited->room);
         }
     }
