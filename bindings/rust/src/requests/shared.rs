@@ -494,3 +494,6 @@ fn leave_room<T>(
         },
     }
 }
+
+#[cfg(test)]
+mod tests;
