@@ -79,7 +79,8 @@ struct csq_ending {
 };
 
 /* Functions that are called round the completion of a request that ends without a worker, by the
- * thread that ends it, and what they are called with. Either may be NULL. The mutex is free then.
+ * thread that ends it, and what they are called with. Either may be NULL; but by these alone comes
+ * the value of a request that no cancel ends. The mutex is free then.
  * Before the completion the request is ending: by its name nobody completes it or puts it back
  * (CSQ_NOT_HELD), also not in the event. After it, it isn't under way any more, and its IRP may
  * have the next one. They return to their caller (by no exception and no longjmp), and may make any
@@ -139,7 +140,8 @@ struct csq_requests_stats {
 /* Makes a queue of this size, whose number of passes isn't looked at: it takes one. With CSQ_AUTO
  * as its list only this call, csq_requests_close and csq_requests_free take the longer the more
  * IRPs and file objects there are. `file_limits` is NULL, or has a limit for each file object, as
- * csq_new_with_file_limits takes them. `events` may be NULL. It is freed by csq_requests_free.
+ * csq_new_with_file_limits takes them. `events` may be NULL. The queue has copies of all three. It
+ * is freed by csq_requests_free.
  * CSQ_NOT_EMPTY (*requests isn't NULL); CSQ_BAD_SIZE; CSQ_NO_MEMORY. */
 CSQ_NODISCARD uint32_t csq_requests_new(struct csq_requests **requests, const struct csq_size *size,
                                         const uint32_t *file_limits,
@@ -153,7 +155,9 @@ void csq_requests_close(struct csq_requests *requests);
 
 /* Ends the queue's clock if it has one (csq_requests_start_clock), closes the queue, completes each
  * request that is listed as cancelled, with the events, and frees the queue, which no other thread
- * uses any more. *requests is NULL then. Of NULL there CSQ_OK, as free(NULL) has it.
+ * uses any more. (That a drain is over doesn't say so: the call that ended the last request may
+ * not have returned. Join the thread.) *requests is NULL then. Of NULL there CSQ_OK, as free(NULL)
+ * has it.
  * CSQ_HOLDING: requests are taken. The queue is closed and has no clock then, and what was listed
  * is completed, but nothing is freed. */
 CSQ_NODISCARD uint32_t csq_requests_free(struct csq_requests **requests);
@@ -177,16 +181,17 @@ CSQ_NODISCARD uint32_t csq_requests_submit(struct csq_requests *requests, void *
  * submit->milliseconds, and that sets a deadline if submit->due is one: at that time, by the clock
  * of csq_requests_tick, the request is cancelled. A removal from the list, an end of a request,
  * csq_requests_close and a cleanup wake those that wait. They come in no order, and a submit that
- * doesn't wait may come first. A drain doesn't wait for them. The codes of csq_requests_submit, in
- * their order. */
+ * doesn't wait may come first. A drain doesn't wait for them. *submit may be a part of what its
+ * value points to, as *name may. The codes of csq_requests_submit, in their order. */
 CSQ_NODISCARD uint32_t csq_requests_submit_with(struct csq_requests *requests,
                                                 const struct csq_submit *submit,
                                                 struct csq_irp *name);
 
 /* Submits `count` values, each as csq_requests_submit_with does, under one lock as long as none
  * waits and no event is called, and stops at the first that is refused. Only the first waits for
- * room. Stores in *submitted how many there are, and their names in the first of `names`, which are
- * no part of what the values point to. Returns the code of the one that was refused, or CSQ_OK. */
+ * room. Stores in *submitted how many there are, and their names in the first of `names`. Neither
+ * `submits` nor `names` are a part of what the values point to. Returns the code of the one that
+ * was refused, or CSQ_OK. */
 CSQ_NODISCARD uint32_t csq_requests_submit_many(struct csq_requests *requests,
                                                 const struct csq_submit *submits, uint32_t count,
                                                 struct csq_irp *names, uint32_t *submitted);
@@ -233,8 +238,9 @@ CSQ_NODISCARD uint32_t csq_requests_complete_many(struct csq_requests *requests,
  * it, and a drain waits for that.
  * CSQ_UNKNOWN_IRP; CSQ_NOT_HELD (as of csq_requests_complete); CSQ_NOT_REMOVED (a put-back before
  * returned CSQ_CANCELLED); CSQ_FILE_CLOSED; CSQ_FILE_FULL; CSQ_FULL; CSQ_CANCELLED (a cancel has
- * named it in the meantime, or its time was over: it is completed with STATUS_CANCELLED alone, and
- * can't be put back). If the list's limit is the number of IRPs, none is refused as CSQ_FULL. */
+ * named it in the meantime, or a csq_requests_tick that found its time over: it is completed with
+ * STATUS_CANCELLED alone, and can't be put back). If the list's limit is the number of IRPs, none
+ * is refused as CSQ_FULL. */
 CSQ_NODISCARD uint32_t csq_requests_put_back(struct csq_requests *requests,
                                              const struct csq_request *request, uint32_t front);
 
@@ -273,7 +279,8 @@ uint64_t csq_requests_now(void);
 /* Starts a thread that makes the calls of csq_requests_tick in time, with csq_requests_now, so that
  * deadlines are times of that clock. It calls the events, and takes no signals.
  * csq_requests_free ends it.
- * CSQ_NOT_EMPTY (the queue has one); CSQ_NO_MEMORY (the system has no thread). */
+ * CSQ_NOT_EMPTY (the queue has one, or is being freed); CSQ_NO_MEMORY (the system has no
+ * thread). */
 CSQ_NODISCARD uint32_t csq_requests_start_clock(struct csq_requests *requests);
 
 /* ---- Connections that go ---- */
@@ -297,8 +304,8 @@ CSQ_NODISCARD uint32_t csq_requests_drain_with(struct csq_requests *requests, ui
  * what is submitted or put back for it ends inside of that call, with the events, and with the
  * cause and the word of the drain that was started last for its file object, or else for any.
  * quiet->quiet, quiet->context and quiet->word are the caller's to store. Several may be told of
- * one file object. CSQ_UNKNOWN_FILE; CSQ_HOLDING (it will be called). After CSQ_OK it is quiet
- * already, and nothing is called. */
+ * one file object. CSQ_UNKNOWN_FILE; CSQ_HOLDING (it will be called, or another thread has called
+ * it before this call returns). After CSQ_OK it is quiet already, and nothing is called. */
 CSQ_NODISCARD uint32_t csq_requests_drain_start(struct csq_requests *requests, uint32_t file,
                                                 struct csq_quiet *quiet);
 

@@ -42,15 +42,17 @@ static struct requests_file *room_for(struct csq_requests *it, uint32_t file, ui
 /* Lists a value that was refused with this code, once there is room. */
 static uint32_t list_later(struct csq_requests *it, const struct csq_submit *submit,
                            struct csq_irp *name, uint32_t code) {
+    const uint32_t file = submit->file; /* once it is listed *submit may be gone with the value */
     struct requests_limit limit = requests_limit_of(submit->milliseconds);
-    struct requests_file *room = room_for(it, submit->file, code), *waited;
+    struct requests_file *room = room_for(it, file, code), *waited;
     while (room && !limit.over) {
         waited = room;
         it->stats.waits_for_room += requests_pause(it, &limit, &room->room, &room->wanting);
         code = list_it(it, submit, name);
-        room = room_for(it, submit->file, code);
-        /* One that was woken and makes no use of it passes it on. */
-        if (code != CSQ_OK && (limit.over || room != waited) && waited->wanting > 0) {
+        room = room_for(it, file, code);
+        /* One that was woken and makes no use of it passes it on. (If it is refused for want of the
+         * same room, the others would be.) */
+        if (code != CSQ_OK && room != waited && waited->wanting > 0) {
             pthread_cond_signal(&waited->room);
         }
     }

@@ -158,14 +158,13 @@ void requests_end_clock(struct csq_requests *it) {
     int runs;
     requests_lock(it);
     runs = it->clock == REQUESTS_CLOCK_RUNS;
+    it->clock = REQUESTS_CLOCK_ENDS;
     if (runs) {
-        it->clock = REQUESTS_CLOCK_ENDS;
         pthread_cond_signal(&it->tick);
     }
     requests_unlock(it);
     if (runs) {
         pthread_join(it->thread, NULL);
-        it->clock = REQUESTS_NO_CLOCK;
     }
 }
 

@@ -134,6 +134,7 @@ uint32_t csq_requests_free(struct csq_requests **requests) {
     csq_requests_close(it);
     requests_lock(it);
     code = requests_return(it, requests_drain(it, CSQ_ANY, 0, CSQ_WHY_FREE, NULL));
+    it->clock = REQUESTS_NO_CLOCK;
     if (code == CSQ_OK) {
         unmake(it, it->files + 1);
         *requests = NULL;

@@ -166,7 +166,8 @@ void *requests_end(struct csq_requests *it, struct csq_irp name, void *word);
 uint32_t requests_drain(struct csq_requests *it, uint32_t file, uint32_t milliseconds, uint32_t why,
                         void *word);
 
-/* Ends the clock, which nobody has to have started. */
+/* Ends the clock, which nobody has to have started, and lets nobody start one: an event of the free
+ * would leave it a queue that isn't there. */
 void requests_end_clock(struct csq_requests *it);
 
 #endif

@@ -156,11 +156,9 @@ void requests_look_for_takers(struct csq_requests *it, uint32_t file) {
         wake_worker(it, file);
         wake_worker(it, CSQ_ANY);
         wake_drains(it, file);
-    }
-    while (quiet &&
-           csq_ledger_drain_next(&it->ledger, file, quiet->why, &name, &of_file) == CSQ_OK) {
+    } else if (csq_ledger_drain_next(&it->ledger, file, quiet->why, &name, &of_file) == CSQ_OK) {
+        /* It was the only one: none stays listed where a drain isn't over. */
         requests_end(it, name, quiet->word);
-        quiet = drain_of(it, file);
     }
 }
 

@@ -1,8 +1,11 @@
 /* The calls of csq_requests.h for batches, deadlines, loops and those who count, in one thread. */
 #include "requests_check.h"
 
+#include <fcntl.h>
 #include <poll.h>
 #include <stddef.h>
+#include <sys/epoll.h>
+#include <unistd.h>
 
 static struct csq_submit how(int value, uint32_t file, uint64_t due) {
     struct csq_submit made = { number(value), file, 0, 0, due };
@@ -173,6 +176,8 @@ static void a_drain_that_nobody_waits_for_tells_once(uint32_t list) {
     IS(csq_requests_put_back(requests, &taken[0], 0), CSQ_FILE_CLOSED);
     IS(csq_requests_complete(requests, &taken[0], 0), CSQ_OK);
     IS(one.told, 2);
+    IS(one.quiet.file, 0);
+    IS(one.quiet.why, CSQ_WHY_CLEANUP);
     IS(csq_requests_cleanup_start(requests, 0, &one.quiet), CSQ_OK);
     IS(csq_requests_cleanup_start(requests, CSQ_ANY, &one.quiet), CSQ_UNKNOWN_FILE);
     IS(csq_requests_free(&requests), CSQ_OK);
@@ -206,11 +211,102 @@ static void nobody_is_told_before_the_last_event_returns(uint32_t list) {
     }
 }
 
+/* Once: a further request is taken for its file object, and the next drain has the same memory. */
+static void start_again(struct csq_quiet *quiet) {
+    struct leaving *leaving = quiet->context;
+    struct csq_request taken;
+    if (leaving->told++ == 0) {
+        submit(inside, 2, 0, 0);
+        IS(next(inside, 0, &taken), 2);
+        IS(csq_requests_drain_start(inside, 0, quiet), CSQ_HOLDING);
+        IS(csq_requests_complete(inside, &taken, 0), CSQ_OK);
+    }
+}
+
+static void who_is_told_may_start_the_next_drain(uint32_t list) {
+    struct csq_request taken;
+    started = left(NULL);
+    started.quiet.quiet = start_again;
+    inside = made(2, list, NULL);
+    submit(inside, 1, 0, 0);
+    IS(next(inside, 0, &taken), 1);
+    IS(leave(inside, 0, &started), CSQ_HOLDING);
+    IS(csq_requests_complete(inside, &taken, 0), CSQ_OK);
+    IS(started.told, 2);
+    IS(csq_requests_free(&inside), CSQ_OK);
+}
+
 /* ---- Eventfds ---- */
 
 static uint32_t is_readable(int fd) {
     struct pollfd one = { fd, POLLIN, 0 };
     return (uint32_t)poll(&one, 1, 0);
+}
+
+static void an_eventfd_is_neither_inherited_nor_waited_for(uint32_t list) {
+    struct csq_requests *requests = made(2, list, NULL);
+    int fd = -1;
+    IS(csq_requests_fd(requests, 0, &fd), CSQ_OK);
+    IS((unsigned)fcntl(fd, F_GETFD) & FD_CLOEXEC, FD_CLOEXEC);
+    IS((unsigned)fcntl(fd, F_GETFL) & O_NONBLOCK, O_NONBLOCK);
+    IS(csq_requests_free(&requests), CSQ_OK);
+}
+
+/* The edges of an eventfd since the last look. */
+static uint32_t edges_of(int loop) {
+    struct epoll_event event;
+    return (uint32_t)epoll_wait(loop, &event, 1, 0);
+}
+
+static void an_edge_comes_again_once_none_was_found(uint32_t list) {
+    struct csq_requests *requests = made(4, list, NULL);
+    struct epoll_event event = { EPOLLIN | EPOLLET, { NULL } };
+    struct csq_request taken;
+    int fd = -1, loop = epoll_create1(EPOLL_CLOEXEC);
+    IS(csq_requests_fd(requests, CSQ_ANY, &fd), CSQ_OK);
+    IS((unsigned)epoll_ctl(loop, EPOLL_CTL_ADD, fd, &event), 0);
+    for (int turn = 0; turn < 2; turn++) {
+        submit(requests, 1, 0, 0);
+        IS(edges_of(loop), 1);
+        submit(requests, 2, 1, 0);
+        IS(edges_of(loop), 0);
+        IS(csq_requests_drain(requests, CSQ_ANY, 0), CSQ_OK);
+        submit(requests, 3, 0, 0);
+        IS(edges_of(loop), 0);
+        IS(csq_requests_drain(requests, CSQ_ANY, 0), CSQ_OK);
+        IS(next(requests, CSQ_ANY, &taken), CSQ_ANY);
+    }
+    IS((unsigned)close(loop), 0);
+    IS(csq_requests_free(&requests), CSQ_OK);
+}
+
+static uint32_t readable_of(const int *fds, int count) {
+    uint32_t readable = 0;
+    while (count > 0) {
+        readable += is_readable(fds[--count]);
+    }
+    return readable;
+}
+
+/* They are more than the queue keeps to write later. */
+static void a_close_makes_each_eventfd_readable(uint32_t list) {
+    struct csq_requests *requests = made(1, list, NULL);
+    struct csq_irp name = { 0, 0 };
+    struct csq_request taken, none;
+    int fds[FILES + 2];
+    submit(requests, 1, 0, 0);
+    IS(next(requests, 0, &taken), 1);
+    for (uint32_t file = 0; file <= FILES; file++) {
+        IS(csq_requests_fd(requests, file < FILES ? file : CSQ_ANY, &fds[file]), CSQ_OK);
+        IS(next(requests, file < FILES ? file : CSQ_ANY, &none), CSQ_ANY);
+    }
+    IS(csq_requests_room_fd(requests, CSQ_ANY, &fds[FILES + 1]), CSQ_OK);
+    IS(csq_requests_submit(requests, number(2), 0, 0, &name), CSQ_FULL);
+    IS(readable_of(fds, FILES + 2), 0);
+    csq_requests_close(requests);
+    IS(readable_of(fds, FILES + 2), FILES + 2);
+    IS(csq_requests_complete(requests, &taken, 0), CSQ_OK);
+    IS(csq_requests_free(&requests), CSQ_OK);
 }
 
 static void an_eventfd_is_readable_while_one_is_listed(uint32_t list) {
@@ -308,7 +404,7 @@ static void the_statistics_count(uint32_t list) {
     IS(stats.ended[CSQ_WHY_DRAIN], 1);
     IS(stats.full, 1);
     IS(stats.file_full, 0);
-    CHECK(stats.waits >= 1);
+    CHECK(stats.waits >= 1 && stats.waits <= 4); /* it lets others run four times before */
     IS(stats.waits_for_room, 0);
     IS(csq_requests_free(&requests), CSQ_OK);
 }
@@ -348,6 +444,10 @@ int main(void) {
     RUN_BOTH(the_callers_word_comes_to_the_events);
     RUN_BOTH(a_drain_that_nobody_waits_for_tells_once);
     RUN_BOTH(nobody_is_told_before_the_last_event_returns);
+    RUN_BOTH(who_is_told_may_start_the_next_drain);
+    RUN_BOTH(an_eventfd_is_neither_inherited_nor_waited_for);
+    RUN_BOTH(an_edge_comes_again_once_none_was_found);
+    RUN_BOTH(a_close_makes_each_eventfd_readable);
     RUN_BOTH(an_eventfd_is_readable_while_one_is_listed);
     RUN_BOTH(an_eventfd_is_readable_unless_there_is_no_room);
     RUN_BOTH(the_statistics_count);

@@ -1,10 +1,9 @@
-/* Submits of csq_requests.h that wait for room, the clock, and shares of a batch, by threads. */
+/* Submits of csq_requests.h that wait for room, and batches, by threads. */
 #include "../requests/requests.h"
 #include "requests_check.h"
 
 #include <poll.h>
 #include <sched.h>
-#include <signal.h>
 #include <unistd.h>
 
 /* A submit that waits for room in a thread of its own. */
@@ -38,18 +37,19 @@ static void end_of(struct submitter *it, uint32_t code) {
     CHECK(it->took < LONG);
 }
 
-/* Until this number of submits sleep for room of a file object, or for an IRP. */
+/* Until this number of submits sleep for room of a file object, or for an IRP; or of workers or
+ * drains. */
 static void until_it_waits(struct csq_requests *requests, uint32_t file, uint32_t count) {
     const struct requests_file *of = requests_file(requests, file);
     const uint64_t began = csq_requests_now();
-    uint32_t wanting = 0;
-    while (wanting < count && csq_requests_now() - began < LONG) {
+    uint32_t asleep = 0;
+    while (asleep < count && csq_requests_now() - began < LONG) {
         pthread_mutex_lock(&requests->mutex);
-        wanting = of->wanting;
+        asleep = of->wanting + of->waiting + of->draining;
         pthread_mutex_unlock(&requests->mutex);
         sched_yield();
     }
-    CHECK(wanting >= count);
+    CHECK(asleep >= count);
 }
 
 /* Two numbers; the first file object may have one listed. */
@@ -71,7 +71,7 @@ static void a_submit_waits_for_its_time(uint32_t list) {
     IS(csq_requests_submit_with(requests, &how, &name), CSQ_FILE_FULL);
     CHECK(csq_requests_now() - began >= SHORT - 1);
     IS(csq_requests_read_stats(requests, &stats), CSQ_OK);
-    CHECK(stats.waits_for_room >= 1);
+    CHECK(stats.waits_for_room >= 1 && stats.waits_for_room <= 4);
     IS(stats.file_full, 1);
     how.milliseconds = CSQ_FOREVER;
     how.file = FILES;
@@ -144,21 +144,44 @@ static void each_act_wakes_who_waits_for_room(uint32_t list) {
     }
 }
 
-/* A cleanup wakes those of its file object that wait for a number, too. */
+/* A cleanup wakes those of its file object that wait for a number, too, whoever else waits for
+ * one. */
 static void a_cleanup_wakes_who_waits_for_a_number(uint32_t list) {
     struct csq_requests *requests = narrow(list, 0);
     struct csq_request taken[2];
-    struct submitter submitter;
+    struct submitter submitters[3];
     for (int at = 0; at < 2; at++) {
         submit(requests, at, 1, 0);
         IS(next(requests, 1, &taken[at]), (uint32_t)at);
     }
-    start(&submitter, requests, 3, 0);
-    until_it_waits(requests, CSQ_ANY, 1);
+    for (uint32_t at = 0; at < 3; at++) {
+        start(&submitters[at], requests, 3, at == 1 ? 0 : 2);
+        until_it_waits(requests, CSQ_ANY, at + 1);
+    }
     IS(csq_requests_cleanup(requests, 0, 0), CSQ_OK);
-    end_of(&submitter, CSQ_FILE_CLOSED);
+    end_of(&submitters[1], CSQ_FILE_CLOSED);
+    csq_requests_close(requests);
+    end_of(&submitters[0], CSQ_CLOSED);
+    end_of(&submitters[2], CSQ_CLOSED);
     IS(csq_requests_complete(requests, &taken[0], 0), CSQ_OK);
     finish(requests, &taken[1]);
+}
+
+/* Where the list is full, and numbers are free, a removal makes room. */
+static void a_removal_wakes_who_waits_for_the_list(uint32_t list) {
+    struct csq_requests *requests = NULL;
+    struct csq_size size = size_of(3, FILES, list);
+    struct submitter submitter;
+    struct csq_request taken;
+    size.limit = 1;
+    IS(csq_requests_new(&requests, &size, NULL, NULL), CSQ_OK);
+    submit(requests, 1, 0, 0);
+    start(&submitter, requests, 2, 1);
+    until_it_waits(requests, CSQ_ANY, 1);
+    IS(next(requests, 0, &taken), 1);
+    end_of(&submitter, CSQ_OK);
+    IS(csq_requests_complete(requests, &taken, 0), CSQ_OK);
+    IS(csq_requests_free(&requests), CSQ_OK);
 }
 
 /* Once each number is past its last life all who wait are told, one by another. */
@@ -204,69 +227,182 @@ static void who_is_woken_and_cannot_use_it_passes_it_on(uint32_t list) {
     IS(csq_requests_free(&requests), CSQ_OK);
 }
 
-/* ---- The clock ---- */
-
-static void until_none_is_under_way(struct csq_requests *requests) {
-    const uint64_t began = csq_requests_now();
-    while (under_way(requests, CSQ_ANY) > 0 && csq_requests_now() - began < LONG) {
-        sched_yield();
-    }
-    IS(under_way(requests, CSQ_ANY), 0);
-}
-
-/* It sleeps until the next deadline, or without a limit, and an earlier one wakes it. */
-static void the_clock_cancels_in_time(uint32_t list) {
-    struct report report;
-    struct csq_requests *requests = reported(4, list, &report);
-    struct csq_requests_stats stats = { sizeof stats, 0, 0, 0, 0, 0, { 0 }, 0, 0, 0, 0 };
-    uint64_t began;
-    IS(csq_requests_start_clock(requests), CSQ_OK);
-    IS(csq_requests_start_clock(requests), CSQ_NOT_EMPTY);
-    began = csq_requests_now();
-    submit_until(requests, 1, 0, began + SHORT);
-    until_none_is_under_way(requests);
-    CHECK(csq_requests_now() >= began + SHORT);
-    submit_until(requests, 2, 0, began + LONG);
-    submit_until(requests, 3, 1, began);
-    while (under_way(requests, 1) > 0 && csq_requests_now() - began < LONG) {
-        sched_yield();
-    }
-    IS(under_way(requests, CSQ_ANY), 1);
-    IS(csq_requests_read_stats(requests, &stats), CSQ_OK);
-    IS(stats.ended[CSQ_WHY_DUE], 2);
-    IS(csq_requests_free(&requests), CSQ_OK);
-    it_ended(&report, CSQ_WHY_FREE, NULL);
-    IS(report.count, 6);
-}
-
-/* A queue whose requests aren't all completed has no clock any more, and may have another one. */
-static void a_free_that_is_refused_ends_the_clock(uint32_t list) {
-    struct csq_requests *requests = made(2, list, NULL);
+/* Of two that wait for one file object one is woken, and finds that no number is free: then the
+ * other waits for a number too. */
+static void who_has_to_wait_elsewhere_wakes_the_next(uint32_t list) {
+    struct csq_requests *requests = narrow(list, 0);
+    struct submitter submitters[2];
     struct csq_request taken;
     submit(requests, 1, 0, 0);
+    start(&submitters[0], requests, 2, 0);
+    start(&submitters[1], requests, 3, 0);
+    until_it_waits(requests, 0, 2);
+    submit(requests, 4, 1, 0);
     IS(next(requests, 0, &taken), 1);
-    IS(csq_requests_start_clock(requests), CSQ_OK);
-    IS(csq_requests_free(&requests), CSQ_HOLDING);
-    IS(csq_requests_start_clock(requests), CSQ_OK);
+    until_it_waits(requests, CSQ_ANY, 2);
+    csq_requests_close(requests);
+    end_of(&submitters[0], CSQ_CLOSED);
+    end_of(&submitters[1], CSQ_CLOSED);
     IS(csq_requests_complete(requests, &taken, 0), CSQ_OK);
     IS(csq_requests_free(&requests), CSQ_OK);
 }
 
-/* A signal that comes where all other threads block it stays pending. */
-static void the_clock_takes_no_signals(uint32_t list) {
+/* Two wait for the same room: one that is woken and finds none sleeps again. Otherwise they would
+ * wake each other for ever. */
+static void who_is_woken_for_nothing_wakes_nobody(uint32_t list) {
+    const struct timespec time = { 0, SHORT * 1000000 };
+    struct csq_requests *requests = narrow(list, 0);
+    struct csq_requests_stats stats = { sizeof stats, 0, 0, 0, 0, 0, { 0 }, 0, 0, 0, 0 };
+    struct submitter submitters[2];
+    submit(requests, 1, 0, 0);
+    start(&submitters[0], requests, 2, 0);
+    start(&submitters[1], requests, 3, 0);
+    until_it_waits(requests, 0, 2);
+    pthread_cond_signal(&requests_file(requests, 0)->room);
+    nanosleep(&time, NULL);
+    IS(csq_requests_read_stats(requests, &stats), CSQ_OK);
+    CHECK(stats.waits_for_room <= 4);
+    csq_requests_close(requests);
+    end_of(&submitters[0], CSQ_CLOSED);
+    end_of(&submitters[1], CSQ_CLOSED);
+    IS(csq_requests_free(&requests), CSQ_OK);
+}
+
+/* What a submit hands over may go with the value, in an event, before the call returns. */
+struct job {
+    struct csq_submit how;
+    struct csq_irp name;
+};
+
+static void *submit_job(void *of) {
+    struct submitter *it = of;
+    struct job *job = it->how.value;
+    it->code = csq_requests_submit_with(it->requests, &job->how, &job->name);
+    return NULL;
+}
+
+static void free_job(void *context, const struct csq_ending *ending) {
+    (void)context;
+    free(ending->value);
+}
+
+static void is_quiet(struct csq_quiet *quiet) {
+    (void)quiet;
+}
+
+static void a_submit_may_lie_in_its_value(uint32_t list) {
+    const struct csq_requests_events events = { NULL, free_job, NULL };
+    struct csq_quiet quiet = { is_quiet, NULL, NULL, 0, 0, NULL };
+    struct csq_requests *requests = made(2, list, &events);
+    struct submitter submitter = { requests, { calloc(1, sizeof(struct job)), 0, 0, LONG, 0 },
+                                   { 0, 0 }, 0, 0, 0 };
+    struct csq_request taken[2];
+    *(struct csq_submit *)submitter.how.value = submitter.how;
+    for (int at = 0; at < 2; at++) {
+        submit(requests, at, 0, 0);
+        IS(next(requests, 0, &taken[at]), (uint32_t)at);
+    }
+    IS((unsigned)pthread_create(&submitter.thread, NULL, submit_job, &submitter), 0);
+    until_it_waits(requests, CSQ_ANY, 1);
+    IS(csq_requests_drain_start(requests, 0, &quiet), CSQ_HOLDING);
+    IS(csq_requests_complete(requests, &taken[0], 0), CSQ_OK);
+    end_of(&submitter, CSQ_OK);
+    IS(csq_requests_complete(requests, &taken[1], 0), CSQ_OK);
+    IS(csq_requests_free(&requests), CSQ_OK);
+}
+
+/* ---- Batches that wait ---- */
+
+struct batcher {
+    struct csq_requests *requests;
+    uint32_t code, count;
+    uint64_t took;
+    pthread_t thread;
+};
+
+static void *submit_two(void *of) {
+    struct batcher *it = of;
+    const struct csq_submit submits[] = { { number(2), 0, 0, LONG, 0 },
+                                          { number(3), 0, 0, LONG, 0 } };
+    const uint64_t began = csq_requests_now();
+    struct csq_irp names[2];
+    it->code = csq_requests_submit_many(it->requests, submits, 2, names, &it->count);
+    it->took = csq_requests_now() - began;
+    return NULL;
+}
+
+static void *take_two(void *of) {
+    struct batcher *it = of;
+    const uint64_t began = csq_requests_now();
+    struct csq_request batch[2];
+    uint32_t completed = 0;
+    it->code = csq_requests_next_many(it->requests, 0, LONG, batch, 2, &it->count);
+    it->took = csq_requests_now() - began;
+    IS(csq_requests_complete_many(it->requests, batch, it->count, 0, &completed), CSQ_OK);
+    return NULL;
+}
+
+static void begin(struct batcher *it, struct csq_requests *requests, void *(*run)(void *)) {
+    memset(it, 0, sizeof *it);
+    it->requests = requests;
+    IS((unsigned)pthread_create(&it->thread, NULL, run, it), 0);
+}
+
+/* One of the two was submitted or taken. */
+static void one_of_two(const struct batcher *it, uint32_t code) {
+    IS((unsigned)pthread_join(it->thread, NULL), 0);
+    IS(it->code, code);
+    IS(it->count, 1);
+    CHECK(it->took < LONG);
+}
+
+static void a_batch_waits_for_its_first_alone(uint32_t list) {
+    struct csq_requests *requests = narrow(list, 0);
+    struct batcher batcher;
+    struct csq_irp name;
+    void *value = NULL;
+    name = submit(requests, 1, 0, 0);
+    begin(&batcher, requests, submit_two);
+    until_it_waits(requests, 0, 1);
+    IS(csq_requests_cancel(requests, name, &value), CSQ_OK);
+    one_of_two(&batcher, CSQ_FILE_FULL);
+    IS(csq_requests_drain(requests, 0, 0), CSQ_OK);
+    begin(&batcher, requests, take_two);
+    until_it_waits(requests, 0, 1);
+    submit(requests, 4, 0, 0);
+    one_of_two(&batcher, CSQ_OK);
+    IS(csq_requests_free(&requests), CSQ_OK);
+}
+
+/* ---- What is to be done before a sleep ---- */
+
+static void *drain_first(void *of) {
+    struct batcher *it = of;
+    it->code = csq_requests_drain(it->requests, 0, LONG);
+    return NULL;
+}
+
+/* A drain is woken, ends what was put back, and sleeps again for what is taken: that there is room
+ * is told before. */
+static void a_drain_that_sleeps_again_tells_before(uint32_t list) {
     struct csq_requests *requests = made(2, list, NULL);
-    sigset_t one, before, pending;
-    int taken = 0;
-    sigemptyset(&one);
-    sigaddset(&one, SIGUSR1);
-    IS(csq_requests_start_clock(requests), CSQ_OK);
-    IS((unsigned)pthread_sigmask(SIG_BLOCK, &one, &before), 0);
-    IS((unsigned)kill(getpid(), SIGUSR1), 0);
-    sched_yield();
-    IS((unsigned)sigpending(&pending), 0);
-    IS((unsigned)sigismember(&pending, SIGUSR1), 1);
-    IS((unsigned)sigwait(&one, &taken), 0);
-    IS((unsigned)pthread_sigmask(SIG_SETMASK, &before, NULL), 0);
+    struct csq_request taken[2];
+    struct csq_irp name = { 0, 0 };
+    struct batcher drain;
+    struct pollfd room = { -1, POLLIN, 0 };
+    for (int at = 0; at < 2; at++) {
+        submit(requests, at, 0, 0);
+        IS(next(requests, 0, &taken[at]), (uint32_t)at);
+    }
+    IS(csq_requests_room_fd(requests, CSQ_ANY, &room.fd), CSQ_OK);
+    IS(csq_requests_submit(requests, number(3), 1, 0, &name), CSQ_FULL);
+    begin(&drain, requests, drain_first);
+    until_it_waits(requests, 0, 1);
+    IS(csq_requests_put_back(requests, &taken[0], 0), CSQ_OK);
+    IS((unsigned)poll(&room, 1, LONG), 1);
+    IS(csq_requests_complete(requests, &taken[1], 0), CSQ_OK);
+    IS((unsigned)pthread_join(drain.thread, NULL), 0);
+    IS(drain.code, CSQ_OK);
     IS(csq_requests_free(&requests), CSQ_OK);
 }
 
@@ -321,16 +457,39 @@ static void a_write_that_comes_late_is_read(uint32_t list) {
     IS(csq_requests_free(&requests), CSQ_OK);
 }
 
+/* If both have come by then, the next that finds none reads both. */
+static void late_writes_are_read_at_once(uint32_t list) {
+    struct csq_requests *requests = made(2, list, NULL);
+    struct requests_fd *fd = &requests_file(requests, CSQ_ANY)->fds[REQUESTS_LISTED];
+    struct pollfd one = { -1, POLLIN, 0 };
+    struct csq_request taken;
+    IS(csq_requests_fd(requests, CSQ_ANY, &one.fd), CSQ_OK);
+    requests_lock(requests);
+    for (int turn = 0; turn < 2; turn++) {
+        requests_raise(requests, fd);
+        requests_lower(fd);
+    }
+    requests_unlock(requests);
+    IS((unsigned)poll(&one, 1, 0), 1);
+    IS(csq_requests_next(requests, CSQ_ANY, 0, &taken), CSQ_NONE);
+    IS((unsigned)poll(&one, 1, 0), 0);
+    IS(csq_requests_free(&requests), CSQ_OK);
+}
+
 int main(void) {
     RUN_BOTH(a_write_that_comes_late_is_read);
+    RUN_BOTH(late_writes_are_read_at_once);
     RUN_BOTH(a_submit_waits_for_its_time);
     RUN_BOTH(each_act_wakes_who_waits_for_room);
     RUN_BOTH(a_cleanup_wakes_who_waits_for_a_number);
+    RUN_BOTH(a_removal_wakes_who_waits_for_the_list);
     RUN_BOTH(all_learn_that_the_lives_are_spent);
     RUN_BOTH(who_is_woken_and_cannot_use_it_passes_it_on);
-    RUN_BOTH(the_clock_cancels_in_time);
-    RUN_BOTH(a_free_that_is_refused_ends_the_clock);
-    RUN_BOTH(the_clock_takes_no_signals);
+    RUN_BOTH(who_has_to_wait_elsewhere_wakes_the_next);
+    RUN_BOTH(who_is_woken_for_nothing_wakes_nobody);
+    RUN_BOTH(a_submit_may_lie_in_its_value);
+    RUN_BOTH(a_batch_waits_for_its_first_alone);
+    RUN_BOTH(a_drain_that_sleeps_again_tells_before);
     RUN_BOTH(a_batch_leaves_the_others_share);
     return DONE();
 }

@@ -162,6 +162,8 @@ static void do_next_many(struct caller *it) {
 }
 
 static void complete(const struct csq_request *request) {
+    const uint32_t why = csq_requests_is_cancelled(requests, request);
+    fault_unless(why == CSQ_WHY_NONE || why == CSQ_WHY_CANCEL || why == CSQ_WHY_DUE);
     end_value(request->value);
     fault_unless(csq_requests_complete(requests, request, CSQ_STATUS_CANCELLED) == CSQ_OK);
     fault_unless(csq_requests_complete(requests, request, CSQ_STATUS_CANCELLED) == CSQ_NOT_HELD);

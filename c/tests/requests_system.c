@@ -49,8 +49,8 @@ static void freed(void *block) {
 
 /* The clock returns the last nanosecond of a second, long ago, so that each time limit is over. */
 static unsigned looks;
+static struct timespec still = { 7, 999999999 };
 static int read_clock(clockid_t clock, struct timespec *now) {
-    const struct timespec still = { 7, 999999999 };
     *now = still;
     looks++;
     return clock == CLOCK_MONOTONIC ? 0 : -1;
@@ -77,6 +77,28 @@ static int read_clock(clockid_t clock, struct timespec *now) {
     given(ATTRIBUTES, (uint32_t)pthread_condattr_destroy(__VA_ARGS__))
 #define pthread_cond_destroy(...) given(SIGNAL, (uint32_t)pthread_cond_destroy(__VA_ARGS__))
 #define pthread_mutex_destroy(...) given(MUTEX, (uint32_t)pthread_mutex_destroy(__VA_ARGS__))
+
+/* How often the mutex was taken, and what that was at the last look at the ledger. A sleep comes
+ * under the lock of a look: what is done in between would wake nobody. */
+static unsigned long locks, locks_of_look, sleeps, late_sleeps;
+
+static int locked(int code) {
+    if (code == 0) {
+        locks++;
+    }
+    return code;
+}
+
+#define pthread_mutex_lock(mutex) locked(pthread_mutex_lock(mutex))
+#define pthread_mutex_trylock(mutex) locked(pthread_mutex_trylock(mutex))
+#define LOOK(call) (locks_of_look = locks, (call))
+#define csq_ledger_begin(...) LOOK(csq_ledger_begin(__VA_ARGS__))
+#define csq_ledger_take(...) LOOK(csq_ledger_take(__VA_ARGS__))
+#define csq_ledger_drain_next(...) LOOK(csq_ledger_drain_next(__VA_ARGS__))
+#define csq_ledger_next_due(...) LOOK(csq_ledger_next_due(__VA_ARGS__))
+#define SLEEP(call) (sleeps++, late_sleeps += locks_of_look != locks, (call))
+#define pthread_cond_wait(...) SLEEP(pthread_cond_wait(__VA_ARGS__))
+#define pthread_cond_timedwait(...) SLEEP(pthread_cond_timedwait(__VA_ARGS__))
 
 #include "../requests/calls.c"
 #include "../requests/ends.c"
@@ -161,11 +183,14 @@ static void a_time_ends_so_many_milliseconds_later(void) {
     }
 }
 
-/* The end of a wait is a time: less than a second of nanoseconds. */
+/* The end of a wait is a time: less than a second of nanoseconds, from whichever time on. */
 static void the_end_of_a_wait_is_a_time(void) {
+    const struct timespec before = still;
     for (uint32_t milliseconds = 1; milliseconds < 3000; milliseconds++) {
         CHECK(requests_limit_of(milliseconds).end.tv_nsec < 1000000000);
+        still.tv_nsec = (long)(milliseconds % 7) * 100000000;
     }
+    still = before;
 }
 
 /* A thread that waits looks at the clock once, so that no wake gives it more time. */
@@ -184,6 +209,36 @@ static void a_limit_is_from_the_call_on(uint32_t list) {
     IS(looks, 2);
     IS(csq_requests_complete(requests, &taken, 0), CSQ_OK);
     IS(csq_requests_free(&requests), CSQ_OK);
+}
+
+static void until_the_clock_sleeps(struct csq_requests *requests) {
+    uint64_t wakes = 0;
+    while (wakes == 0) {
+        requests_lock(requests);
+        wakes = requests->wakes;
+        requests_unlock(requests);
+        sched_yield();
+    }
+}
+
+/* Of a worker, a submit, a drain and the clock. */
+static void each_sleep_follows_a_look(uint32_t list) {
+    struct csq_requests *requests = made(1, list, NULL);
+    const struct csq_submit how = { number(2), 0, 0, SHORT, 0 };
+    struct csq_irp name = { 0, 0 };
+    struct csq_request taken;
+    sleeps = late_sleeps = 0;
+    IS(csq_requests_next(requests, 0, SHORT, &taken), CSQ_NONE);
+    submit(requests, 1, 0, 0);
+    IS(csq_requests_submit_with(requests, &how, &name), CSQ_FULL);
+    IS(next(requests, 0, &taken), 1);
+    IS(csq_requests_drain(requests, 0, SHORT), CSQ_HOLDING);
+    IS(csq_requests_start_clock(requests), CSQ_OK);
+    until_the_clock_sleeps(requests);
+    IS(csq_requests_complete(requests, &taken, 0), CSQ_OK);
+    IS(csq_requests_free(&requests), CSQ_OK);
+    CHECK(sleeps >= 4);
+    IS(late_sleeps, 0);
 }
 
 /* What the calls for event loops and the clock take is given back with the queue. */
@@ -213,5 +268,6 @@ int main(void) {
     RUN(a_time_ends_so_many_milliseconds_later);
     RUN(the_end_of_a_wait_is_a_time);
     RUN_BOTH(a_limit_is_from_the_call_on);
+    RUN_BOTH(each_sleep_follows_a_look);
     return DONE();
 }

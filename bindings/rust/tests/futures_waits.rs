@@ -315,10 +315,19 @@ fn a_waker_is_dropped_without_the_lock() {
     assert_eq!(pass.cancel(id), Err(Missed::Taken));
     let mut cancelled = request.cancelled();
     assert!(Pin::new(&mut cancelled).poll(&mut context).is_ready());
-    // One that waits, and looks again.
-    let mut waits = pass.recv_async(Peek::Any);
+    // Those that wait, and look again. Both requests are taken.
+    pass.submit(2, 0, Place::Back).unwrap();
+    let other = pass.recv(Peek::Any).unwrap();
+    let mut waits: [Pin<Box<dyn Future<Output = ()> + '_>>; 4] = [
+        Box::pin(async { drop(pass.recv_async(Peek::Any).await) }),
+        Box::pin(async { drop(pass.submit_async(3, 0, Place::Back).await) }),
+        Box::pin(async { drop(pass.drain_async(Peek::Any).await) }),
+        Box::pin(other.cancelled()),
+    ];
     for _ in 0..2 {
-        assert!(Pin::new(&mut waits).poll(&mut context).is_pending());
+        for wait in &mut waits {
+            assert!(wait.as_mut().poll(&mut context).is_pending());
+        }
     }
 }
 

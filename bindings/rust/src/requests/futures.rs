@@ -59,7 +59,8 @@ impl<T> Drop for RecvFuture<T> {
     }
 }
 
-/// Ends once a cancel has named a request that was taken ([`OwnedRequest::cancelled`]).
+/// Ends once a cancel has named a request that was taken, or its deadline
+/// ([`OwnedRequest::cancelled`]).
 #[must_use = "a future does nothing unless it is awaited"]
 pub struct CancelledFuture<T> {
     pass: OwnedPass<T>,

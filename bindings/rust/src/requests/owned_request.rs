@@ -72,7 +72,7 @@ impl<T> OwnedRequest<T> {
         &mut self.taken.value
     }
 
-    /// Whether a cancel named it and came too late, as
+    /// Whether a cancel named it and came too late, or its deadline did, as
     /// [`Request::is_cancelled`](crate::Request::is_cancelled) has it. Takes the lock.
     ///
     /// ```
@@ -108,8 +108,8 @@ impl<T> OwnedRequest<T> {
         self.taken.cancelled_by()
     }
 
-    /// Ends once a cancel has named the request ([`OwnedRequest::is_cancelled`]). Of one that is
-    /// completed before, it never ends.
+    /// Ends once a cancel has named the request, or its deadline ([`OwnedRequest::is_cancelled`]).
+    /// Of one that is completed before, it never ends.
     ///
     /// ```
     /// # use csq::*;

@@ -78,9 +78,9 @@ impl<'pass, T> Request<'pass, T> {
         &mut self.taken.value
     }
 
-    /// Whether a cancel named it and came too late ([`Missed::Taken`](crate::Missed::Taken)):
-    /// nobody waits for it, so it may be given up, and a put-back doesn't leave it to another
-    /// worker. Takes the lock.
+    /// Whether a cancel named it and came too late ([`Missed::Taken`](crate::Missed::Taken)), or
+    /// its deadline did: nobody waits for it, so it may be given up, and a put-back doesn't leave
+    /// it to another worker. Takes the lock.
     ///
     /// ```
     /// # use csq::*;
@@ -130,9 +130,9 @@ impl<'pass, T> Request<'pass, T> {
     }
 
     /// Puts the request back into the list with its value, for the file object that it was
-    /// submitted for: for a worker that can't serve it now. It keeps its name. One that a cancel
-    /// named in the meantime is completed with `STATUS_CANCELLED`, and its value handed over. Takes
-    /// the lock.
+    /// submitted for: for a worker that can't serve it now. It keeps its name and its deadline. One
+    /// that was named in the meantime ([`Request::is_cancelled`]) is completed with
+    /// `STATUS_CANCELLED`, and its value handed over. Takes the lock.
     ///
     /// # Errors
     ///

@@ -149,8 +149,9 @@ impl<T> Shared<T> {
                 Err(refused) => refused,
             };
             let room = room_of(cause, submission.file).filter(|_| !state.waiting.ended);
-            // One that was woken and can't use that room, or waits no more, passes it on.
-            if let Some(other) = woken_for.filter(|it| waker.is_none() || room != Some(*it)) {
+            // One that was woken and can't use that room passes it on. (If it is refused for want
+            // of the same room, the others would be.)
+            if let Some(other) = woken_for.filter(|it| room != Some(*it)) {
                 state.waiting.pass_room_on(other);
             }
             match room.and_then(|room| Some((room, waker.take()?))) {
@@ -493,3 +494,6 @@ fn leave_room<T>(
         },
     }
 }
+
+#[cfg(test)]
+mod tests;
