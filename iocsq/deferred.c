@@ -85,6 +85,15 @@ static void expire_timers(void) {
     timers_changed = false;
 }
 
+/* A DPC or a work item has made its last call, and has yet to return. If that completed the last
+ * request, its driver may be unloaded meanwhile, unless the unload waits for it. While more file
+ * objects are open nothing is drawn here. */
+static void linger(void) {
+    if (iocsq_open_files() <= 1) {
+        iocsq_long_point(2);
+    }
+}
+
 static void run_first_dpc(void) {
     KDPC *dpc = first_dpc, call = *dpc; /* its routine may free it */
     first_dpc = dpc->Next;
@@ -95,6 +104,7 @@ static void run_first_dpc(void) {
     iocsq_log(NULL, "a DPC");
     iocsq_set_irql(DISPATCH_LEVEL);
     call.DeferredRoutine(dpc, call.DeferredContext, call.SystemArgument1, call.SystemArgument2);
+    linger();
     if (KeGetCurrentIrql() != DISPATCH_LEVEL) {
         iocsq_disagree(NULL, "a DPC returns at IRQL %u", KeGetCurrentIrql());
     }
@@ -276,6 +286,7 @@ static void run_first_work(void) {
     iocsq_point();
     iocsq_log(NULL, "a work item");
     call.routine(call.device, call.context);
+    linger();
     check_left("a work item");
     iocsq_let_go_of_device(call.device);
     iocsq_lock_state();
