@@ -92,6 +92,38 @@ static void note(const struct iocsq_schedule *s, uint64_t hash, const char *line
     write_line(line, length);
 }
 
+static bool is_cancelling(const struct iocsq_schedule *s, uint32_t pass) {
+    bool cancels = false;
+    for (uint32_t at = 0; at < s->count; at++) {
+        if (s->steps[at].pass == pass) {
+            cancels = strcmp(s->steps[at].name, "flag") == 0;
+        }
+    }
+    return cancels;
+}
+
+/* A cancel that is under way as the IRP is completed finds no routine any more. Whether there is
+ * room for that step. */
+static bool end_cancels(struct iocsq_schedule *s) {
+    for (uint32_t pass = 1; pass <= s->passes; pass++) {
+        if (is_cancelling(s, pass) && s->count < IOCSQ_STEPS) {
+            struct iocsq_step take = { "take", pass, "IoCancelIrp" };
+            s->steps[s->count++] = take;
+        } else if (is_cancelling(s, pass)) {
+            return false;
+        }
+    }
+    return true;
+}
+
+static bool can_be_judged(const struct iocsq_irp *i, struct iocsq_schedule *s, const char **why) {
+    if (!iocsq_schedule_of(i, s, why)) {
+        return false;
+    }
+    *why = "it has more steps than iocsq keeps";
+    return i->place != IOCSQ_DONE || end_cancels(s);
+}
+
 void iocsq_note_schedule(const struct iocsq_irp *i) {
     struct iocsq_schedule s;
     const char *why;
@@ -99,7 +131,7 @@ void iocsq_note_schedule(const struct iocsq_irp *i) {
     if (!i->hand.armed || !iocsq_in_turns()) {
         return;
     }
-    if (!iocsq_schedule_of(i, &s, &why)) {
+    if (!can_be_judged(i, &s, &why)) {
         noted->counts.left_out++;
         write_left_out(why);
         return;
