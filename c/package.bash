@@ -116,9 +116,9 @@ csq_add_iocsq() {
   install -m 644 "$top"/include/wdk/*.h "$tree/include/keuvatsi/wdk"
   install -m 644 "$top"/iocsq/*.[ch] "$share"
   install -m 644 "$top"/iocsq/skeleton/* "$share/skeleton"
-  install -m 644 "$top"/iocsq/tests/{storm.c,patient.c,bounded.c,program.h} "$share/tests"
+  install -m 644 "$top"/iocsq/tests/{storm.c,patient.c,bounded.c,program.h,levels.h} "$share/tests"
   install -m 644 "$top"/iocsq/scenarios/* "$share/scenarios"
-  install -m 755 "$top"/iocsq/{new,check,shortest,draw} "$share"
+  install -m 755 "$top"/iocsq/{new,check,shortest,judge,draw} "$share"
   printf '%s\n' "# Paths from this folder, for new" "include=../../../include/keuvatsi" \
     "library=../../../$LIBDIR/libcsq.a" >"$share/installed"
 }

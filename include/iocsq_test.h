@@ -47,6 +47,13 @@ typedef struct _IOCSQ_POLICY {
     BOOLEAN (*Waits)(PIRP Irp); /* or IocsqNoneWaits, below */
     /* Milliseconds in which the driver ends a request that may not wait. 0: 2,000. */
     ULONG Within;
+    /* Of a driver without an IO_CSQ. Its IRP_MJ_CLEANUP may leave what waits with a cancel routine,
+     * since it ends soon by itself, such as a transfer. */
+    BOOLEAN KeepsAtCleanup;
+    /* Of such a driver: no request waits that reaches it once the IRP_MJ_CLEANUP of its file object
+     * has begun. Otherwise it may, until it is cancelled, as by the end of its sender's thread.
+     * (With an IO_CSQ none may.) */
+    BOOLEAN NoneLate;
 } IOCSQ_POLICY;
 /* Waits of a driver that ends each request by itself. The bounded test expects ends of requests
  * only of a policy that has Waits. */
@@ -147,12 +154,16 @@ typedef struct _IOCSQ_EXPLORED {
     ULONG64 Longer;      /* of IocsqDraw, with the next: runs that had more steps, and don't
                           * count */
     ULONG Threads, Steps;
+    BOOLEAN Unfinished;  /* IocsqExploreWithin has ended it */
 } IOCSQ_EXPLORED;
 /* Calls Run with each schedule of at most MostPreemptions preemptions, in another process: first
  * those without, then those with one, and so on, until one ends that process. Run loads the driver
  * and unloads it, and frees what it allocates: each time it is called the program's variables have
  * the values that they have now. */
 IOCSQ_EXPLORED IocsqExplore(VOID (*Run)(PVOID Context), PVOID Context, ULONG MostPreemptions);
+/* The next IocsqExplore ends after so many seconds, whatever is left to run (Unfinished). 0: it
+ * never does. */
+VOID IocsqExploreWithin(ULONG Seconds);
 /* Calls Run as many times as Runs says, in another process, by priorities that are drawn (PCT): a
  * fault for which Depth orders of steps (1 to 8) are enough is shown by each run with a probability
  * of at least 1 / (Threads * Steps^(Depth - 1)). What else the checker draws, and where the clock

@@ -30,21 +30,40 @@ static const char *const event_names[IOCSQ_EVENTS] = {
     [IOCSQ_CLEANUP] = "cleanup",
     [IOCSQ_CLEANUP_BEFORE_INSERT] = "cleanup: an insert comes after it began",
     [IOCSQ_CLEANUP_BEFORE_REFUSAL] = "cleanup: an insert that comes after it began is refused",
+    [IOCSQ_CLEANUP_OUTLIVED] = "cleanup: a request comes after it, and waits",
+    [IOCSQ_HAND_SET] = "by hand: IoSetCancelRoutine sets a routine",
+    [IOCSQ_HAND_TAKEN_BACK] = "by hand: IoSetCancelRoutine(Irp, NULL) returns it",
+    [IOCSQ_HAND_GONE] = "by hand: it returns NULL, since a cancel has it",
     [IOCSQ_ENDED_WELL] = "completion: success",
     [IOCSQ_ENDED_CANCELLED] = "completion: cancelled",
     [IOCSQ_ENDED_BY_TIME] = "completion: timeout",
     [IOCSQ_ENDED_OTHERWISE] = "completion: another status",
 };
 
+bool iocsq_is_by_hand(void) {
+    return kind_count == 0;
+}
+
+/* Without an IO_CSQ an insert, a removal and a cancel are what the driver does by hand. */
 void iocsq_cover(enum iocsq_event event) {
     events[event]++;
+    if (!iocsq_is_by_hand()) {
+        return;
+    }
+    switch (event) {
+    case IOCSQ_HAND_SET: IOCSQ_COUNT(Inserted); break;
+    case IOCSQ_HAND_TAKEN_BACK: IOCSQ_COUNT(Removed); break;
+    case IOCSQ_CANCEL_BY_DRIVER: IOCSQ_COUNT(Cancelled); break;
+    default: break;
+    }
 }
 
 void iocsq_cover_end(UCHAR major, NTSTATUS status) {
     if (major == IRP_MJ_CREATE || major == IRP_MJ_CLEANUP || major == IRP_MJ_CLOSE) {
         return;
     }
-    iocsq_cover(status == STATUS_TIMEOUT     ? IOCSQ_ENDED_BY_TIME
+    bool by_time = status == STATUS_TIMEOUT || status == STATUS_IO_TIMEOUT;
+    iocsq_cover(by_time                      ? IOCSQ_ENDED_BY_TIME
                 : NT_SUCCESS(status)         ? IOCSQ_ENDED_WELL
                 : status == STATUS_CANCELLED ? IOCSQ_ENDED_CANCELLED
                                              : IOCSQ_ENDED_OTHERWISE);
@@ -138,6 +157,32 @@ static void print_row(const char *name, const char *of, ULONG64 count) {
     printf("  %-*s%s %10llu\n", 56 - (int)strlen(of), name, of, (unsigned long long)count);
 }
 
+/* What can't happen without an IO_CSQ, and what can't with one. */
+static bool is_of_queues(uint32_t event) {
+    return event == IOCSQ_REFUSED || event == IOCSQ_PUT_BACK ||
+           (event >= IOCSQ_CANCEL_AT_INSERT && event <= IOCSQ_CANCEL_AFTER_REMOVAL) ||
+           event == IOCSQ_CLEANUP_BEFORE_INSERT || event == IOCSQ_CLEANUP_BEFORE_REFUSAL;
+}
+
+static bool is_of_hand(uint32_t event) {
+    return event >= IOCSQ_CLEANUP_OUTLIVED && event <= IOCSQ_HAND_GONE;
+}
+
+static bool has_row(uint32_t event) {
+    if (is_of_hand(event)) {
+        return iocsq_is_by_hand() || events[IOCSQ_HAND_SET] > 0;
+    }
+    return !is_of_queues(event) || !iocsq_is_by_hand();
+}
+
+static void print_schedules(void) {
+    struct iocsq_schedules_noted noted = iocsq_schedules_noted();
+    if (noted.irps + noted.left_out > 0) {
+        print_row("by hand: IRPs whose steps are a schedule", "", noted.irps);
+        print_row("by hand: IRPs whose steps are none", "", noted.left_out);
+    }
+}
+
 static void print_table(void) {
     printf("What happened, and how often:\n");
     for (uint32_t at = 0; at < kind_count * IOCSQ_CALLBACKS; at++) {
@@ -146,8 +191,11 @@ static void print_table(void) {
         print_row(callback_name(k, which), kind_name(k), k->calls[which]);
     }
     for (uint32_t at = 0; at < IOCSQ_EVENTS; at++) {
-        print_row(event_names[at], "", events[at]);
+        if (has_row(at)) {
+            print_row(event_names[at], "", events[at]);
+        }
     }
+    print_schedules();
 }
 
 /* ---- What never happened ---- */
@@ -200,13 +248,36 @@ static bool kind_was_tested(const struct iocsq_kind *k) {
     return all_ran(k) && all;
 }
 
+/* A driver without an IO_CSQ: what its own cancel routines did. */
+static bool hand_was_tested(void) {
+    IOCSQ_POLICY policy = iocsq_first_policy();
+    bool all = true;
+    if (policy.NeverInserts) {
+        return true;
+    }
+    if (events[IOCSQ_HAND_SET] == 0) {
+        return complain(NULL, "no queue was initialized, and no cancel routine was set",
+                        "the driver called neither IoCsqInitialize nor IoSetCancelRoutine (do its "
+                        "control codes stand in DriverControls?)");
+    }
+    if (events[IOCSQ_HAND_TAKEN_BACK] == 0 && !policy.NeverRemoves) {
+        all = complain(NULL, "no cancel routine was taken back",
+                       "IoSetCancelRoutine(Irp, NULL) never returned one; if the driver never does "
+                       "so, its policy says NeverRemoves");
+    }
+    if (events[IOCSQ_CANCEL_BY_DRIVER] == 0 && !policy.NeverCancelled) {
+        all = complain(NULL, "no cancel routine ran",
+                       "if no IRP waits for long enough, the policy says NeverCancelled");
+    }
+    return all;
+}
+
 BOOLEAN IocsqCoverage(VOID) {
     bool all = true;
     print_table();
     fflush(stdout);
-    if (kind_count == 0) {
-        return complain(NULL, "no queue was initialized",
-                        "the driver called neither IoCsqInitialize nor IoCsqInitializeEx");
+    if (iocsq_is_by_hand()) {
+        return hand_was_tested();
     }
     for (uint32_t at = 0; at < kind_count; at++) {
         all = kind_was_tested(&kinds[at]) && all;

@@ -85,6 +85,15 @@ static void expire_timers(void) {
     timers_changed = false;
 }
 
+/* A DPC or a work item has made its last call, and has yet to return. If that completed the last
+ * request, its driver may be unloaded meanwhile, unless the unload waits for it. While more file
+ * objects are open nothing is drawn here. */
+static void linger(void) {
+    if (iocsq_open_files() <= 1) {
+        iocsq_long_point(2);
+    }
+}
+
 static void run_first_dpc(void) {
     KDPC *dpc = first_dpc, call = *dpc; /* its routine may free it */
     first_dpc = dpc->Next;
@@ -94,7 +103,11 @@ static void run_first_dpc(void) {
     iocsq_point();
     iocsq_log(NULL, "a DPC");
     iocsq_set_irql(DISPATCH_LEVEL);
+    iocsq_own.during = "a DPC";
     call.DeferredRoutine(dpc, call.DeferredContext, call.SystemArgument1, call.SystemArgument2);
+    iocsq_own.during = NULL;
+    iocsq_hand_let_go();
+    linger();
     if (KeGetCurrentIrql() != DISPATCH_LEVEL) {
         iocsq_disagree(NULL, "a DPC returns at IRQL %u", KeGetCurrentIrql());
     }
@@ -162,6 +175,7 @@ VOID IocsqInitializeDpcRequest(PKDPC Dpc, PIO_DPC_ROUTINE DpcRoutine, PDEVICE_OB
 
 BOOLEAN NTAPI KeInsertQueueDpc(PRKDPC Dpc, PVOID SystemArgument1, PVOID SystemArgument2) {
     expect_dpc(Dpc, "KeInsertQueueDpc");
+    iocsq_log_of_driver("KeInsertQueueDpc");
     iocsq_lock_state();
     need_processor();
     bool queued = queue_dpc(Dpc);
@@ -216,6 +230,7 @@ BOOLEAN NTAPI KeSetTimerEx(PKTIMER Timer, LARGE_INTEGER DueTime, LONG Period, PK
     if (Dpc) {
         expect_dpc(Dpc, "KeSetTimer with one");
     }
+    iocsq_log_of_driver("KeSetTimer");
     iocsq_lock_state();
     need_processor();
     bool was_set = unset(Timer);
@@ -244,6 +259,7 @@ static void draw_expiry(const KTIMER *timer) {
 
 BOOLEAN NTAPI KeCancelTimer(PKTIMER Timer) {
     iocsq_expect_header(&Timer->Header, "KeCancelTimer");
+    iocsq_log_of_driver("KeCancelTimer");
     iocsq_point();
     iocsq_lock_state();
     draw_expiry(Timer);
@@ -282,7 +298,11 @@ static void run_first_work(void) {
     iocsq_unlock_state();
     iocsq_point();
     iocsq_log(NULL, "a work item");
+    iocsq_own.during = "a work item";
     call.routine(call.device, call.context);
+    iocsq_own.during = NULL;
+    iocsq_hand_let_go();
+    linger();
     check_left("a work item");
     iocsq_let_go_of_device(call.device);
     iocsq_lock_state();
@@ -323,6 +343,7 @@ VOID NTAPI IoInitializeWorkItem(PVOID IoObject, PIO_WORKITEM IoWorkItem) {
 VOID NTAPI IoQueueWorkItem(PIO_WORKITEM IoWorkItem, PIO_WORKITEM_ROUTINE WorkerRoutine,
                            WORK_QUEUE_TYPE QueueType, PVOID Context) {
     (void)QueueType;
+    iocsq_log_of_driver("IoQueueWorkItem");
     iocsq_lock_state();
     if (IoWorkItem->queued) {
         iocsq_disagree(NULL, "IoQueueWorkItem of a work item that is queued already");

@@ -12,6 +12,7 @@
 #include <stdlib.h>
 #include <sys/mman.h>
 #include <sys/wait.h>
+#include <time.h>
 #include <unistd.h>
 
 enum { CHOICES = 1 << 16, PLANNED = 50, MOST_PREEMPTIONS = 8, SECONDS = 20, MEASURED = 20 };
@@ -250,12 +251,30 @@ static void begin_next_preemptions(struct exploration *e) {
     shared->explored.Preemptions++;
 }
 
-/* In the process that explores: if this returns, all were run. */
+static ULONG most_seconds; /* of the next exploration; 0: no limit */
+
+VOID IocsqExploreWithin(ULONG Seconds) {
+    most_seconds = Seconds;
+}
+
+static time_t second(void) {
+    struct timespec now;
+    clock_gettime(CLOCK_MONOTONIC, &now);
+    return now.tv_sec;
+}
+
+/* In the process that explores: if this returns, all were run, or the time is over. */
 static void explore(struct exploration *e, ULONG most) {
     const struct plan first = { .count = 0 };
+    bool limited = most_seconds > 0;
+    time_t end = second() + (time_t)most_seconds;
     e->variables = iocsq_save_variables();
     push(&e->ready, &first);
     while (e->ready.count > 0 || e->parents.count > 0 || shared->explored.Preemptions < most) {
+        if (limited && second() >= end) {
+            shared->explored.Unfinished = TRUE;
+            return;
+        }
         if (e->ready.count > 0) {
             run_ready(e, shared->explored.Preemptions < most);
         } else if (e->parents.count > 0) {

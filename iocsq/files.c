@@ -1,7 +1,7 @@
 /* File objects: how they are opened, referred to and closed. */
-#include "internal.h"
+#include "queues.h"
 
-enum { MILLISECOND = 1000000 };
+enum { MILLISECOND = 1000000, SOON = 200 };
 
 static FILE_OBJECT files[IOCSQ_FILES]; /* with the next four, under the state's lock */
 static bool is_open[IOCSQ_FILES];
@@ -173,6 +173,30 @@ static bool is_of_file(const struct irp_of_file *of) {
     return of->irp->used && !of->irp->own && of->irp->file == of->file;
 }
 
+/* Whether it waits with a cancel routine of the driver's own, though its file object was cleaned
+ * up: not one that came after the cleanup began, or that is cancelled. */
+static bool is_left_by_hand(const struct irp_of_file *of) {
+    const struct iocsq_irp *i = of->irp;
+    iocsq_lock_state();
+    bool left = is_of_file(of) && i->place == IOCSQ_HOME && i->irp.CancelRoutine && !i->late &&
+                !i->irp.Cancel;
+    iocsq_unlock_state();
+    return left;
+}
+
+static void check_cleaned_by_hand(PFILE_OBJECT file) {
+    for (uint32_t at = 0; at < iocsq_irp_count(); at++) {
+        struct irp_of_file of = { iocsq_irp_number(at), file };
+        if (is_left_by_hand(&of)) {
+            iocsq_disagree(of.irp,
+                           "IRP_MJ_CLEANUP of file %u left irp %u, which waits with a cancel "
+                           "routine of the driver (if it ends soon by itself, the policy says "
+                           "KeepsAtCleanup)",
+                           number_of(file), at);
+        }
+    }
+}
+
 static void check_cleaned(PFILE_OBJECT file) {
     uint32_t number = number_of(file);
     iocsq_lock_state();
@@ -182,6 +206,9 @@ static void check_cleaned(PFILE_OBJECT file) {
     if (left) {
         iocsq_disagree(left, "IRP_MJ_CLEANUP of file %u left irp %u in the queue", number,
                        left->index);
+    }
+    if (iocsq_is_by_hand() && !iocsq_first_policy().KeepsAtCleanup) {
+        check_cleaned_by_hand(file);
     }
 }
 
@@ -194,6 +221,29 @@ static bool is_dereferenced(void *file) {
     return of_driver[number_of(file)] == 0;
 }
 
+static bool await_completion(struct irp_of_file *of, ULONG milliseconds) {
+    iocsq_lock_state();
+    bool completed =
+        iocsq_await(is_completed, of, milliseconds * (uint64_t)MILLISECOND, "a request");
+    iocsq_unlock_state();
+    return completed;
+}
+
+/* Whether it is completed in the end. A request that comes after the cleanup, to a driver without
+ * an IO_CSQ, may wait until it is cancelled, as the I/O manager does once its sender's thread
+ * ends. */
+static bool await_last_completion(struct irp_of_file *of) {
+    bool by_hand = iocsq_is_by_hand();
+    if (await_completion(of, by_hand && !iocsq_in_turns() ? (ULONG)SOON : iocsq_patience())) {
+        return true;
+    }
+    if (by_hand && of->irp->late && !iocsq_first_policy().NoneLate) {
+        iocsq_cover(IOCSQ_CLEANUP_OUTLIVED);
+        iocsq_cancel(of->irp);
+    }
+    return by_hand && await_completion(of, iocsq_patience());
+}
+
 /* IRP_MJ_CLOSE comes once the file object is referenced no more, and its IRPs are completed. */
 static void wait_for_close(PFILE_OBJECT file) {
     iocsq_lock_state();
@@ -201,15 +251,14 @@ static void wait_for_close(PFILE_OBJECT file) {
     iocsq_unlock_state();
     for (uint32_t at = 0; at < iocsq_irp_count(); at++) {
         struct irp_of_file of = { iocsq_irp_number(at), file };
-        iocsq_lock_state();
-        bool completed =
-            iocsq_await(is_completed, &of, iocsq_patience() * (uint64_t)MILLISECOND, "a request");
-        iocsq_unlock_state();
-        if (!completed && of.irp->late) {
+        bool completed = await_last_completion(&of);
+        if (!completed && of.irp->late && of.irp->place != IOCSQ_REMOVED) {
             iocsq_disagree(of.irp,
-                           "irp %u went into the queue after IRP_MJ_CLEANUP of its file %u began, "
-                           "and was never completed",
-                           at, iocsq_file_number(file));
+                           "irp %u %s after IRP_MJ_CLEANUP of its file %u began, and was never "
+                           "completed",
+                           at, iocsq_is_by_hand() ? "was given a cancel routine"
+                                                  : "went into the queue",
+                           iocsq_file_number(file));
         }
         if (!completed) {
             iocsq_disagree(of.irp, "irp %u of file %u %s, and was never completed", at,

@@ -8,8 +8,8 @@
 #include <stdbool.h>
 
 /* IRPs under way, file objects that are open (one number of csq.h's is for no file object), an
- * IRP's stack locations, and the steps kept of an IRP's stay. */
-enum { IOCSQ_IRPS = 4096, IOCSQ_FILES = 255, IOCSQ_STACK = 4, IOCSQ_STEPS = 16 };
+ * IRP's stack locations, and the steps kept of an IRP. */
+enum { IOCSQ_IRPS = 4096, IOCSQ_FILES = 255, IOCSQ_STACK = 4, IOCSQ_STEPS = 24 };
 /* In the place of a time in nanoseconds: without a limit. */
 #define IOCSQ_FOR_EVER UINT64_MAX
 
@@ -23,6 +23,40 @@ enum iocsq_place { IOCSQ_HOME, IOCSQ_LISTED, IOCSQ_REMOVED, IOCSQ_CANCELLED, IOC
 struct iocsq_step {
     const char *name;
     uint32_t pass;
+    const char *during; /* which call of the driver, or IoCancelIrp, it is part of; null: unknown */
+};
+
+/* What a driver does with the cancel routine that it sets itself (hand.c). */
+enum iocsq_hand_state {
+    IOCSQ_HAND_NONE,  /* it has set none yet */
+    IOCSQ_HAND_ARMED, /* the IRP has one */
+    IOCSQ_HAND_OWED,  /* a cancel took it, and the routine has to end the IRP */
+    IOCSQ_HAND_HELD,  /* the driver took it back, or the routine took the IRP out */
+    IOCSQ_HAND_DONE
+};
+struct iocsq_hand {
+    enum iocsq_hand_state state;
+    bool armed;           /* the driver has set a routine, since the IRP was in no IO_CSQ */
+    const char *left_out; /* why its steps are no schedule; null: they are one */
+    bool linked;          /* it is in a list */
+    bool begun, returned; /* its routine, which a cancel took */
+    uint32_t holder;      /* the pass that owes or holds it */
+    uint32_t arming;      /* the thread that has set the routine, and has yet to look at the flag;
+                           * 0: none */
+    uint32_t by;          /* the pass by which it was set last */
+    uint32_t must_disarm; /* the thread that found the flag after it */
+    uint32_t looked;      /* a thread that read Irp->Cancel before; with the next three, 0: none */
+    uint32_t looked_at;   /* the number of steps then */
+    uint32_t looked_in;   /* which time it was that it had the cancel spin lock; 0: it hadn't */
+    bool saw;             /* what it read */
+    uint64_t told;        /* the threads, a bit each, to which IoSetCancelRoutine(Irp, NULL)
+                           * returned NULL since the routine was taken */
+    uint32_t doubtful;    /* a thread that was told so, and completed it; 0: none */
+    uint32_t doubtful_at; /* the number of steps before */
+    uint32_t thief;       /* a thread that completed what another owed; 0: none */
+    bool dangling;        /* its routine completed it while it was linked */
+    uint16_t flagging;    /* cancellers, a bit each, whose flag the queue beside has yet to note */
+    uint16_t flagged;     /* those whose flag was noted before that */
 };
 
 /* Memory of a request's own. */
@@ -90,9 +124,10 @@ struct iocsq_irp {
     NTSTATUS status;
     ULONG_PTR information;
     bool pending_returned;
-    struct iocsq_step steps[IOCSQ_STEPS]; /* of its present stay */
+    struct iocsq_step steps[IOCSQ_STEPS]; /* of its present stay, or since it was sent */
     uint32_t step_count;
     uint32_t put_backs_left_out; /* of the steps, since there were too many */
+    struct iocsq_hand hand;
 };
 
 struct iocsq_irp *iocsq_irp_at(const void *irp);                    /* null: no IRP */
@@ -109,6 +144,51 @@ NTSTATUS iocsq_dispatch(PDEVICE_OBJECT device, struct iocsq_irp *i);
 void iocsq_check_pending(const struct iocsq_irp *i); /* its dispatch routine's answer and its
                                                       * completion agree */
 void iocsq_check_untouched(struct iocsq_irp *i);     /* since its completion */
+struct iocsq_irp *iocsq_in_use(const void *irp, const char *call); /* one that wasn't completed or
+                                                                    * freed; otherwise reports */
+
+/* ---- cancels.c ---- */
+/* IoCancelIrp by the IRP's sender, who may call it at any time, also once it is completed. */
+BOOLEAN iocsq_cancel(struct iocsq_irp *i);
+
+/* ---- hand.c: cancel routines of the driver's own, step by step ---- */
+bool iocsq_is_by_hand(void); /* the driver has initialized no IO_CSQ (coverage.c) */
+void iocsq_hand_look(struct iocsq_irp *i); /* the driver reads Irp->Cancel */
+void iocsq_hand_set(struct iocsq_irp *i, bool sets, bool found); /* IoSetCancelRoutine, and whether
+                                                                  * it returned a routine */
+void iocsq_hand_flag(struct iocsq_irp *i);             /* IoCancelIrp sets Irp->Cancel, */
+void iocsq_hand_take(struct iocsq_irp *i, bool found); /* and takes the routine, */
+void iocsq_hand_begin(struct iocsq_irp *i);            /* which begins */
+void iocsq_hand_return(struct iocsq_irp *i);           /* and returns */
+/* The queue beside notes the flag of a canceller, and that it finds no routine. */
+void iocsq_hand_mark(struct iocsq_irp *i, uint32_t pass);
+void iocsq_hand_link(struct iocsq_irp *i, bool links); /* into a list, or out of it */
+void iocsq_hand_done(struct iocsq_irp *i);             /* IoCompleteRequest */
+void iocsq_hand_let_go(void); /* this thread has no lock any more, or leaves the driver */
+/* From here on the IRP is in an IO_CSQ; `goes_on`: in which it was before. */
+void iocsq_hand_end(struct iocsq_irp *i, bool goes_on);
+uint32_t iocsq_hand_pass(const struct iocsq_irp *i); /* by which the steps say that it is held */
+void iocsq_explain_hand(const struct iocsq_irp *i);  /* what a report alone doesn't say */
+
+/* ---- undo.c ---- */
+enum { IOCSQ_UNDONE = 64, IOCSQ_WIDEST = 16 }; /* writes, and the bytes of one */
+struct iocsq_write {
+    void *at;
+    size_t size;
+    unsigned char before[IOCSQ_WIDEST];
+};
+struct iocsq_undo {
+    uintptr_t frame;
+    uint32_t count;
+    struct iocsq_write writes[IOCSQ_UNDONE];
+};
+/* From now on this thread's writes in the driver are kept, except to frames below this one. */
+void iocsq_begin_undo(struct iocsq_undo *undo, const void *frame);
+void iocsq_note_write(const volatile void *at, size_t size); /* which is about to be made */
+void iocsq_end_undo(struct iocsq_undo *undo); /* undoes them, the last one first */
+
+/* ---- accesses.c ---- */
+bool iocsq_sees_accesses(void); /* the driver is compiled so that its accesses to memory are seen */
 
 /* ---- builders.c ---- */
 bool iocsq_is_built(const struct iocsq_irp *i); /* the I/O manager ends it */
@@ -185,6 +265,12 @@ struct iocsq_own {
     int report_status;  /* with which its report ends the program; 0: IOCSQ_DISAGREES */
     bool asks_alone; /* it is in an audit with null as peek context, and the driver itself has never
                       * used null */
+    const char *during;  /* which call of the driver, or IoCancelIrp, it is in; null: none */
+    uint32_t arming;     /* 1 + the IRP whose routine it has set, and has yet to look; 0: none */
+    bool took;           /* the cancel that it makes was noted as one that found no routine */
+    struct iocsq_irp *routine_of; /* whose cancel routine of the driver's it is in; null: none */
+    uint32_t cancel_hold; /* how often it took the cancel spin lock */
+    struct iocsq_undo *undo; /* of the peek that it makes and the framework doesn't; null: none */
 };
 extern _Thread_local struct iocsq_own iocsq_own;
 
@@ -201,6 +287,7 @@ void iocsq_log(const struct iocsq_irp *about, const char *format, ...)
     __attribute__((format(printf, 2, 3)));
 void iocsq_log_sent(const struct iocsq_irp *about, const char *format, ...)
     __attribute__((format(printf, 2, 3)));
+void iocsq_log_of_driver(const char *call); /* of no IRP, and only where the driver is at work */
 /* The driver's fault: reports it, and ends the program. `about` may be null. */
 void iocsq_disagree(const struct iocsq_irp *about, const char *format, ...)
     __attribute__((format(printf, 2, 3), noreturn));
@@ -221,7 +308,30 @@ void iocsq_begin_steps(struct iocsq_irp *i);
 void iocsq_step(struct iocsq_irp *i, uint32_t pass, const char *name);
 void iocsq_step_again(struct iocsq_irp *i, const char *name); /* a step of this thread that the
                                                                * protocol refuses */
+/* The same before the step with this number. */
+void iocsq_step_before(struct iocsq_irp *i, uint32_t at, uint32_t pass, const char *name);
+void iocsq_take_back_steps(struct iocsq_irp *i, uint32_t from, uint32_t to);
+/* An IRP's steps, with its passes numbered from 1 as they come. */
+struct iocsq_schedule {
+    uint32_t count, passes;
+    uint32_t put_backs_left_out;
+    struct iocsq_step steps[IOCSQ_STEPS];
+};
+/* Whether the steps can be said; otherwise `why` is the cause, or null where there are none. */
+bool iocsq_schedule_of(const struct iocsq_irp *i, struct iocsq_schedule *made, const char **why);
+const char *iocsq_step_irp(const struct iocsq_step *step); /* the IRP that its line names, with a
+                                                            * space before; empty: none */
 void iocsq_show_schedule(const struct iocsq_irp *i);
+
+/* ---- schedules.c: of IRPs with cancel routines of the driver's own ---- */
+/* As such an IRP is completed, or reported. The state's lock is held, or the report's. */
+void iocsq_note_schedule(const struct iocsq_irp *i);
+/* The different ones, in the order in which they came; null: there is none with this number. */
+const struct iocsq_schedule *iocsq_schedule_number(uint32_t number);
+struct iocsq_schedules_noted {
+    uint64_t irps, left_out; /* with a schedule, without one */
+};
+struct iocsq_schedules_noted iocsq_schedules_noted(void);
 
 /* ---- turns.c ---- */
 bool iocsq_in_turns(void); /* whether one thread runs at a time */
@@ -302,6 +412,8 @@ void iocsq_forget_lock(const void *lock); /* has it no more */
  * iocsq_end_watch. */
 struct iocsq_watch iocsq_watch_lock(const void *lock);
 uint32_t iocsq_end_watch(struct iocsq_watch before); /* answers how often it was released */
+uint32_t iocsq_cancel_lock_hold(void); /* which time it is that this thread has the cancel spin
+                                        * lock; 0: it hasn't */
 
 /* ---- irql.c ---- */
 void iocsq_set_irql(KIRQL level);
@@ -323,6 +435,10 @@ enum iocsq_event {
     IOCSQ_CLEANUP,
     IOCSQ_CLEANUP_BEFORE_INSERT,
     IOCSQ_CLEANUP_BEFORE_REFUSAL,
+    IOCSQ_CLEANUP_OUTLIVED, /* with the next three: of cancel routines of the driver's own */
+    IOCSQ_HAND_SET,
+    IOCSQ_HAND_TAKEN_BACK,
+    IOCSQ_HAND_GONE,
     IOCSQ_ENDED_WELL, /* how each request was completed, but for those that open and close a file
                        * object */
     IOCSQ_ENDED_CANCELLED,
@@ -379,6 +495,7 @@ void iocsq_end_queues(void);
 /* One that a file object's cleanup should have ended, and that is still in a queue. Null: none. */
 struct iocsq_irp *iocsq_left_in_queues(uint32_t file);
 bool iocsq_cancel_queued(struct iocsq_irp *i); /* whether its cancel routine was a queue's */
+void iocsq_cover_cancel(const struct iocsq_irp *i, bool found); /* what a cancel met */
 void iocsq_complete_held(struct iocsq_irp *i, NTSTATUS status);  /* ends its stay */
 
 #endif

@@ -1,5 +1,5 @@
-/* The IRPs: their table, their way down through stack locations and up through completion routines,
- * and their cancellation. */
+/* The IRPs: their table, and their way down through stack locations and up through completion
+ * routines. cancels.c has their cancellation. */
 #include "internal.h"
 #include "poison.h"
 
@@ -43,11 +43,23 @@ uint32_t iocsq_irp_count(void) {
     return count;
 }
 
+/* One with a cancel routine of the driver's own. */
+static const char *name_by_hand(const struct iocsq_irp *i) {
+    switch (i->hand.state) {
+    case IOCSQ_HAND_OWED: return "is its cancel routine's, which was taken,";
+    case IOCSQ_HAND_HELD:
+        return i->hand.begun ? "was taken out by its cancel routine"
+                             : "was taken back by IoSetCancelRoutine(Irp, NULL)";
+    default: return "waits with a cancel routine of the driver";
+    }
+}
+
 const char *iocsq_place_name(const struct iocsq_irp *i) {
     static const char *const names[] = { "is in no queue", "is in the queue",
                                          "was removed from the queue", "was taken out as cancelled",
                                          "was completed" };
-    return names[i->place];
+    bool own = i->place == IOCSQ_HOME || i->place == IOCSQ_REMOVED;
+    return own && (i->hand.armed || i->irp.CancelRoutine) ? name_by_hand(i) : names[i->place];
 }
 
 static struct iocsq_irp *known(const void *irp, const char *call) {
@@ -58,8 +70,7 @@ static struct iocsq_irp *known(const void *irp, const char *call) {
     return i;
 }
 
-/* One that the driver may still use: it wasn't completed, or freed. */
-static struct iocsq_irp *in_use(const void *irp, const char *call) {
+struct iocsq_irp *iocsq_in_use(const void *irp, const char *call) {
     struct iocsq_irp *i = known(irp, call);
     if (i->place == IOCSQ_DONE) {
         iocsq_disagree(i, "%s of irp %u, which was %s", call, i->index,
@@ -136,6 +147,7 @@ static void begin_irp(struct iocsq_irp *i, int locations) {
     i->call_of = NULL;
     i->late = false;
     i->stay = 0;
+    memset(&i->hand, 0, sizeof i->hand);
     iocsq_begin_steps(i);
 }
 
@@ -167,7 +179,10 @@ static void mark_pending(struct iocsq_irp *i) {
 }
 
 VOID NTAPI IoMarkIrpPending(PIRP Irp) {
-    struct iocsq_irp *i = in_use(Irp, "IoMarkIrpPending");
+    if (iocsq_is_by_hand()) {
+        iocsq_point(); /* once another thread may have the IRP it is too late */
+    }
+    struct iocsq_irp *i = iocsq_in_use(Irp, "IoMarkIrpPending");
     if (Irp->CurrentLocation > Irp->StackCount) {
         iocsq_disagree(i, "IoMarkIrpPending of irp %u, which has no current stack location",
                        i->index);
@@ -194,6 +209,18 @@ static void check_answer(const struct iocsq_irp *i, uint32_t use, int location, 
     }
 }
 
+static const char *name_of_major(UCHAR major) {
+    switch (major) {
+    case IRP_MJ_CREATE: return "IRP_MJ_CREATE";
+    case IRP_MJ_CLOSE: return "IRP_MJ_CLOSE";
+    case IRP_MJ_READ: return "IRP_MJ_READ";
+    case IRP_MJ_WRITE: return "IRP_MJ_WRITE";
+    case IRP_MJ_DEVICE_CONTROL: return "IRP_MJ_DEVICE_CONTROL";
+    case IRP_MJ_CLEANUP: return "IRP_MJ_CLEANUP";
+    default: return "another request";
+    }
+}
+
 NTSTATUS iocsq_dispatch(PDEVICE_OBJECT device, struct iocsq_irp *i) {
     uint32_t use = i->use;
     int location = i->irp.CurrentLocation - 1;
@@ -203,13 +230,17 @@ NTSTATUS iocsq_dispatch(PDEVICE_OBJECT device, struct iocsq_irp *i) {
     i->irp.CurrentLocation--;
     PIO_STACK_LOCATION stack = --i->irp.Tail.Overlay.CurrentStackLocation;
     stack->DeviceObject = device;
+    const char *before = iocsq_own.during;
+    iocsq_own.during = name_of_major(stack->MajorFunction);
     NTSTATUS status = device->DriverObject->MajorFunction[stack->MajorFunction](device, &i->irp);
+    iocsq_own.during = before;
+    iocsq_hand_let_go();
     check_answer(i, use, location, status);
     return status;
 }
 
 NTSTATUS NTAPI IofCallDriver(PDEVICE_OBJECT DeviceObject, PIRP Irp) {
-    struct iocsq_irp *i = in_use(Irp, "IoCallDriver");
+    struct iocsq_irp *i = iocsq_in_use(Irp, "IoCallDriver");
     if (i->place != IOCSQ_HOME && i->place != IOCSQ_REMOVED) {
         iocsq_disagree(i, "IoCallDriver of irp %u, which %s", i->index, iocsq_place_name(i));
     }
@@ -246,6 +277,10 @@ static void check_completion(struct iocsq_irp *i) {
     }
     iocsq_expect_irql(DISPATCH_LEVEL, "IoCompleteRequest");
     iocsq_log(i, "IoCompleteRequest(irp %u, %08X)", i->index, (unsigned)i->irp.IoStatus.Status);
+    if (iocsq_cancel_lock_hold() > 0) {
+        iocsq_set_hint("  It is the cancel spin lock: a cancel routine first calls "
+                       "IoReleaseCancelSpinLock(Irp->CancelIrql).");
+    }
     if (iocsq_spin_lock_count() > 0) {
         iocsq_disagree(i, "IoCompleteRequest of irp %u with a spin lock held", i->index);
     }
@@ -341,6 +376,7 @@ static void finish(struct iocsq_irp *i) {
         iocsq_check_pending(i);
     }
     iocsq_take_buffers(i);
+    iocsq_note_schedule(i);
     take_from_driver(i);
     iocsq_state_changed();
     iocsq_unlock_state();
@@ -349,6 +385,7 @@ static void finish(struct iocsq_irp *i) {
 VOID NTAPI IofCompleteRequest(PIRP Irp, CCHAR PriorityBoost) {
     struct iocsq_irp *i = known(Irp, "IoCompleteRequest");
     (void)PriorityBoost;
+    iocsq_hand_done(i);
     check_completion(i);
     NTSTATUS status = Irp->IoStatus.Status;
     bool stayed = i->stay != 0; /* another thread may end the stay before this one does */
@@ -370,44 +407,6 @@ VOID NTAPI IofCompleteRequest(PIRP Irp, CCHAR PriorityBoost) {
                           "(STATUS_MORE_PROCESSING_REQUIRED)", i->index);
     }
     finish(i);
-}
-
-/* ---- Cancellation ---- */
-PDRIVER_CANCEL NTAPI IoSetCancelRoutine(PIRP Irp, PDRIVER_CANCEL CancelRoutine) {
-    struct iocsq_irp *i = in_use(Irp, "IoSetCancelRoutine");
-    if (i->place == IOCSQ_LISTED) {
-        iocsq_disagree(i, "IoSetCancelRoutine of irp %u, which is in a cancel-safe queue",
-                       i->index);
-    }
-    iocsq_point();
-    iocsq_log(i, "IoSetCancelRoutine(irp %u, %s)", i->index,
-              CancelRoutine ? "one of the driver" : "none");
-    return atomic_exchange(&Irp->CancelRoutine, CancelRoutine);
-}
-
-BOOLEAN NTAPI IoCancelIrp(PIRP Irp) {
-    struct iocsq_irp *i = known(Irp, "IoCancelIrp");
-    KIRQL before;
-    if (i->own && i->place == IOCSQ_DONE) {
-        iocsq_disagree(i, "IoCancelIrp of irp %u, which was freed", i->index);
-    }
-    iocsq_log(i, "IoCancelIrp(irp %u)", i->index);
-    Irp->Cancel = TRUE;
-    iocsq_long_point(8);
-    if (iocsq_cancel_queued(i)) {
-        return TRUE;
-    }
-    IoAcquireCancelSpinLock(&before);
-    PDRIVER_CANCEL routine = atomic_exchange(&Irp->CancelRoutine, (PDRIVER_CANCEL)NULL);
-    if (!routine) {
-        IoReleaseCancelSpinLock(before);
-        return FALSE;
-    }
-    Irp->CancelIrql = before;
-    iocsq_cover(IOCSQ_CANCEL_BY_DRIVER);
-    routine(IoGetCurrentIrpStackLocation(Irp)->DeviceObject, Irp); /* which releases the cancel spin
-                                                                    * lock */
-    return TRUE;
 }
 
 /* ---- IRPs of the driver's own ---- */

@@ -6,7 +6,9 @@ warnings=(-Wall -Wextra -Wpedantic -Wshadow -Wconversion -Wno-multichar -Werror)
 # The right drivers: those that show one thing each, the examples, and those of usual shapes, written for Windows.
 drivers=(drivers/{reports,priority,stages,removal,ticks,workers,counted,requests,filter,keys,slots,later,manners,busy}
   drivers/{handed,calls,parts,sends,locked} examples/{serial,pipe,inverted})
+# hand: those without an IO_CSQ.
 usual=(usual/{again,current,event,idle,interrupt,pass,peek,poll,port,startio,thread,transfer,two})
+hand=(hand/{own,slot,start,system,timed,worker})
 
 # Compiles the checker once for each compiler and flags, and prints the folder with its objects; those of the tests are
 # in the folder `tests` of it: iocsq_objects COMPILER FLAG..
@@ -33,7 +35,7 @@ iocsq_objects() {
 # its ending; beside it NAME.test.c says what its callbacks mean, if it isn't the usual. WRONG is the number of the
 # place where it is wrong, 0 for none, `planted` for an example's own fault, or the file of another below iocsq.
 iocsq_build() {
-  local program=$1 driver=$top/iocsq/$2 wrong=$3 objects test=() fault=() source=$top/iocsq/$2.c
+  local program=$1 driver=$top/iocsq/$2 wrong=$3 objects test=() fault=() sees=() source=$top/iocsq/$2.c
   shift 3
   if [[ $wrong == planted || $wrong == *.fault ]]; then
     if [[ $wrong == *.fault ]]; then fault=("$top/iocsq/$wrong"); fi
@@ -42,7 +44,8 @@ iocsq_build() {
   fi
   objects=$(iocsq_objects "$@") || return 1
   if [[ -f $driver.test.c ]]; then test=("$driver.test.c"); fi
-  "$@" -std=c11 "${warnings[@]}" -DWRONG="$wrong" -I"$top/include/wdk" -c "$source" -o "$program.driver.o" &&
+  if [[ $* != *sanitize* ]]; then sees=(-fsanitize=thread); fi # so that iocsq/accesses.c sees where it reads Irp->Cancel
+  "$@" -std=c11 "${warnings[@]}" "${sees[@]}" -DWRONG="$wrong" -I"$top/include/wdk" -c "$source" -o "$program.driver.o" &&
     "$@" -std=c11 "${warnings[@]}" -DWRONG="$wrong" -I"$top/include" "$objects"/*.o "$objects/tests/${TEST:-storm}.o" "${test[@]}" \
       "$program.driver.o" "${library[@]:-$objects/libcsq_plain.a}" -pthread -o "$program"
 }

@@ -45,6 +45,9 @@ void iocsq_forget_lock(const void *lock) {
     }
     iocsq_own.lock_count--;
     iocsq_own.watch.releases += lock == iocsq_own.watch.lock;
+    if (iocsq_own.lock_count == 0) {
+        iocsq_hand_let_go();
+    }
 }
 
 struct iocsq_watch iocsq_watch_lock(const void *lock) {
@@ -285,12 +288,32 @@ VOID NTAPI KeReleaseInStackQueuedSpinLockFromDpcLevel(PKLOCK_QUEUE_HANDLE LockHa
     KeReleaseSpinLockFromDpcLevel(LockHandle->Lock);
 }
 
+/* ---- The cancel spin lock ---- */
 static KSPIN_LOCK cancel_lock = UNTAKEN;
+
 VOID NTAPI IoAcquireCancelSpinLock(PKIRQL Irql) {
     *Irql = KeAcquireSpinLockRaiseToDpc(&cancel_lock);
+    iocsq_own.cancel_hold++;
+}
+
+uint32_t iocsq_cancel_lock_hold(void) {
+    return iocsq_has_lock(&cancel_lock) ? iocsq_own.cancel_hold : 0;
+}
+
+/* In a cancel routine it goes back to the IRQL from which IoCancelIrp came. */
+static void check_cancel_irql(KIRQL to) {
+    const struct iocsq_irp *i = iocsq_own.routine_of;
+    bool last = iocsq_own.spin_lock_count == 1 && iocsq_own.saved_before;
+    if (i && i->place != IOCSQ_DONE && last && to != iocsq_own.irql_before) {
+        iocsq_disagree(i,
+                       "IoReleaseCancelSpinLock(%u) in the cancel routine of irp %u, which came "
+                       "from IRQL %u: Irp->CancelIrql says so",
+                       to, i->index, iocsq_own.irql_before);
+    }
 }
 
 VOID NTAPI IoReleaseCancelSpinLock(KIRQL Irql) {
+    check_cancel_irql(Irql);
     KeReleaseSpinLock(&cancel_lock, Irql);
 }
 

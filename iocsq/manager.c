@@ -99,7 +99,7 @@ static void show(struct iocsq_irp *i) {
 
 /* If `may`, goes to DISPATCH_LEVEL once in AT_DISPATCH_IN times of this thread; returns where
  * KeLowerIrql goes back to. It isn't drawn, so that a seed's run is the same with it. In the
- * bounded mode it never does. */
+ * bounded mode it never does: IocsqCancel chooses there. */
 static KIRQL raise_in_turn(bool may) {
     bool raises = may && !iocsq_is_bounded() && iocsq_own.raisable++ % AT_DISPATCH_IN == 0;
     return raises ? KfRaiseIrql(DISPATCH_LEVEL) : KeGetCurrentIrql();
@@ -169,8 +169,22 @@ IOCSQ_REQUEST *IocsqControl(PFILE_OBJECT File, ULONG IoControlCode, PVOID Buffer
     return send(i, File->DeviceObject);
 }
 
+static const char at_dispatch[] =
+    "  The cancel came at DISPATCH_LEVEL: if nobody cancels there, since the callbacks wait, the "
+    "driver's policy says PassiveCancels.";
+
+/* In the bounded mode the IRQL is a choice: of a driver without an IO_CSQ, whose cancel routine
+ * releases the cancel spin lock itself. A queue's routine is iocsq's own. */
 BOOLEAN IocsqCancel(IOCSQ_REQUEST *Request) {
-    return IoCancelIrp(&Request->irp.irp);
+    struct iocsq_irp *i = &Request->irp;
+    bool may = iocsq_is_bounded() && iocsq_is_by_hand() && !iocsq_policy_of(i).PassiveCancels;
+    bool raises = may && iocsq_choose(2, 2) == 1;
+    KIRQL before = raises ? KfRaiseIrql(DISPATCH_LEVEL) : KeGetCurrentIrql();
+    iocsq_set_hint(raises ? at_dispatch : NULL);
+    BOOLEAN found = iocsq_cancel(i);
+    iocsq_set_hint(NULL);
+    KeLowerIrql(before);
+    return found;
 }
 
 bool iocsq_is_done(void *irp) {
@@ -241,10 +255,8 @@ BOOLEAN IocsqCancelAny(VOID) {
     }
     KIRQL before = raise_in_turn(!iocsq_policy_of(i).PassiveCancels);
     bool raised = before < KeGetCurrentIrql();
-    iocsq_set_hint(raised ? "  The cancel came at DISPATCH_LEVEL: if nobody cancels there, since "
-                            "the callbacks wait, the driver's policy says PassiveCancels."
-                          : NULL);
-    BOOLEAN found = IoCancelIrp(&i->irp);
+    iocsq_set_hint(raised ? at_dispatch : NULL);
+    BOOLEAN found = iocsq_cancel(i);
     iocsq_set_hint(NULL);
     KeLowerIrql(before);
     end_cancel(i);

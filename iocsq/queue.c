@@ -114,7 +114,7 @@ static void complete_by_driver(struct iocsq_queue *q, struct iocsq_irp *i) {
 }
 
 /* ---- Cancellation ---- */
-static void cover_cancel(const struct iocsq_irp *i, bool found) {
+void iocsq_cover_cancel(const struct iocsq_irp *i, bool found) {
     int place = i->place;
     iocsq_cover(found                      ? IOCSQ_CANCEL_IN_QUEUE
                 : place == IOCSQ_DONE      ? IOCSQ_CANCEL_AFTER_COMPLETION
@@ -125,7 +125,7 @@ static void cover_cancel(const struct iocsq_irp *i, bool found) {
 bool iocsq_cancel_queued(struct iocsq_irp *i) {
     struct iocsq_claim claim;
     bool found = iocsq_reference_mark(i, &claim);
-    cover_cancel(i, found);
+    iocsq_cover_cancel(i, found);
     if (!found) {
         return false;
     }

@@ -181,6 +181,10 @@ VOID IocsqSetPolicy(PIO_CSQ Csq, const IOCSQ_POLICY *Policy) {
     }
 }
 
+IOCSQ_POLICY iocsq_first_policy(void) {
+    return first_policy;
+}
+
 IOCSQ_POLICY iocsq_policy_of(const struct iocsq_irp *i) {
     const struct iocsq_reference *r = iocsq_reference_of(i);
     return r ? iocsq_queue_at(r->index)->policy : first_policy;
@@ -196,9 +200,28 @@ static void check_touch(const LIST_ENTRY *entry, const char *call, const char *h
     }
 }
 
+/* An IRP that had a cancel routine of the driver's own was completed, and never unlinked. */
+static void check_dangling(const LIST_ENTRY *entry, const char *call, const char *how) {
+    struct iocsq_irp *i = iocsq_irp_of_entry(entry);
+    if (i && i->place == IOCSQ_DONE && i->hand.armed && i->hand.linked && !i->hand.thief) {
+        iocsq_disagree(i, "%s %s irp %u, which was completed and is still in the driver's list",
+                       call, how, i->index);
+    } /* of a thief the report follows, with the second completion */
+}
+
 VOID IocsqTouch(const LIST_ENTRY *Entry, const LIST_ENTRY *Before, const LIST_ENTRY *After,
                 const char *Call) {
+    struct iocsq_irp *i = iocsq_irp_of_entry(Entry);
+    if (i && iocsq_is_by_hand() && iocsq_lock_count() == 0) {
+        iocsq_point(); /* no lock keeps others out */
+    }
     check_touch(Entry, Call, "of");
     check_touch(Before, Call, "beside");
     check_touch(After, Call, "beside");
+    check_dangling(Entry, Call, "of");
+    check_dangling(Before, Call, "beside");
+    check_dangling(After, Call, "beside");
+    if (i) {
+        iocsq_hand_link(i, Call[0] == 'I'); /* InsertTailList, InsertHeadList */
+    }
 }

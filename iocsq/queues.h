@@ -32,6 +32,7 @@ struct iocsq_queue *iocsq_queue_at(uint32_t index);
 struct iocsq_irp *iocsq_known(PIRP irp, const char *who); /* ends the program where it is no IRP */
 /* The policy of the queue in which it stays, or that of all queues. */
 IOCSQ_POLICY iocsq_policy_of(const struct iocsq_irp *i);
+IOCSQ_POLICY iocsq_first_policy(void); /* that of all queues */
 PFILE_OBJECT iocsq_irp_file(struct iocsq_irp *i); /* null: it has none */
 
 /* ---- queue.c: the driver's lock is held ---- */

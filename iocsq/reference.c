@@ -159,16 +159,19 @@ void iocsq_reference_join(struct iocsq_reference *r, struct iocsq_irp *i) {
     uint32_t slot = r->free_slots[--r->free_count];
     r->by_slot[slot] = i;
     iocsq_begin_steps(i);
+    iocsq_hand_end(i, false);
     i->stay = stay_at(r, slot, r->lives[slot]);
     pthread_mutex_unlock(&r->mutex);
 }
 
-/* What an insert or a put-back did that was accepted. The queue's mutex is held. */
-static void settle(struct iocsq_irp *i, uint32_t pass, const char *step, uint32_t code) {
-    iocsq_step(i, pass, step);
-    iocsq_step(i, pass, "test");
+/* What an insert or a put-back did that was accepted, `named` being the pass in its steps. The
+ * queue's mutex is held. */
+static void settle(struct iocsq_irp *i, uint32_t pass, uint32_t named, const char *step,
+                   uint32_t code) {
+    iocsq_step(i, named, step);
+    iocsq_step(i, named, "test");
     if (code == CSQ_CANCELLED) {
-        iocsq_step(i, pass, "disarm");
+        iocsq_step(i, named, "disarm");
         i->pass = pass;
     }
     i->place = code == CSQ_OK ? IOCSQ_LISTED : IOCSQ_CANCELLED;
@@ -185,7 +188,7 @@ bool iocsq_reference_insert(struct iocsq_reference *r, struct iocsq_irp *i, uint
         expect(code, CSQ_OK, "csq_insert");
     }
     r->files[irp.irp] = file;
-    settle(i, pass, "arm", code);
+    settle(i, pass, pass, "arm", code);
     pthread_mutex_unlock(&r->mutex);
     return code == CSQ_OK;
 }
@@ -208,7 +211,8 @@ uint32_t iocsq_reference_put_back(struct iocsq_reference *r, struct iocsq_irp *i
         return_pass(r, pass);
     }
     if (code == CSQ_OK || code == CSQ_CANCELLED) {
-        settle(i, pass, "rearm", code);
+        settle(i, pass, iocsq_hand_pass(i), "rearm", code);
+        iocsq_hand_end(i, true);
     } else {
         expect(code, CSQ_NOT_HELD, "csq_put_back");
     }
@@ -250,8 +254,7 @@ bool iocsq_reference_mark(struct iocsq_irp *i, struct iocsq_claim *claim) {
         uint32_t code = csq_mark_cancel(&r->passes[made.pass].pass, made.irp, &found);
         return_pass(r, made.pass);
         if (code == CSQ_OK) {
-            iocsq_step(i, made.pass, "flag");
-            iocsq_step(i, made.pass, "take");
+            iocsq_hand_mark(i, made.pass);
             *claim = made;
             return found != 0;
         }
@@ -317,7 +320,9 @@ static uint32_t end_stay(struct iocsq_irp *i, struct use use) {
     struct iocsq_reference *r = reference_of(stay);
     pthread_mutex_lock(&r->mutex);
     lend_this_pass(r, pass);
-    iocsq_step(i, pass, use.step);
+    if (!i->hand.armed || use.inserts) {
+        iocsq_step(i, pass, use.step); /* of its own steps hand.c has noted it */
+    }
     uint32_t verdict = judge_use(r, pass, irp_of(stay), use);
     if (verdict == CSQ_USE_AGREES) {
         free_slot(r, i, irp_of(stay), pass);

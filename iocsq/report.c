@@ -144,6 +144,12 @@ void iocsq_log(const struct iocsq_irp *about, const char *format, ...) {
     va_end(rest);
 }
 
+void iocsq_log_of_driver(const char *call) {
+    if (iocsq_own.during) {
+        iocsq_log(NULL, "%s", call);
+    }
+}
+
 void iocsq_log_sent(const struct iocsq_irp *about, const char *format, ...) {
     va_list rest;
     va_start(rest, format);
@@ -191,10 +197,14 @@ void iocsq_disagree(const struct iocsq_irp *about, const char *format, ...) {
     if (iocsq_own.hint) {
         fprintf(stderr, "%s\n", iocsq_own.hint);
     }
+    if (about) {
+        iocsq_explain_hand(about);
+    }
     iocsq_show_places(false);
     if (about) {
         show_history(about);
         iocsq_show_schedule(about);
+        iocsq_note_schedule(about);
     }
     iocsq_show_last_calls();
     _exit(iocsq_own.report_status ? iocsq_own.report_status : IOCSQ_DISAGREES);

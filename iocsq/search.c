@@ -152,9 +152,12 @@ struct iocsq_irp *iocsq_peek(struct iocsq_search *s) {
 
 /* All answers from the first on, which are judged. */
 static void peek_to_the_last(struct iocsq_search *s) {
+    struct iocsq_undo undo;
     has_own_peeks = true;
+    iocsq_begin_undo(&undo, __builtin_frame_address(0));
     while (iocsq_peek(s)) {
     }
+    iocsq_end_undo(&undo);
 }
 
 void iocsq_audit(struct iocsq_queue *q, const char *when) {

@@ -129,14 +129,17 @@ VOID NTAPI KeInitializeEvent(PRKEVENT Event, EVENT_TYPE Type, BOOLEAN State) {
 
 LONG NTAPI KeSetEvent(PRKEVENT Event, KPRIORITY Increment, BOOLEAN Wait) {
     (void)Increment, (void)Wait;
+    iocsq_log_of_driver("KeSetEvent");
     return set_signal(&Event->Header, 1, "KeSetEvent");
 }
 
 LONG NTAPI KeResetEvent(PRKEVENT Event) {
+    iocsq_log_of_driver("KeResetEvent");
     return set_signal(&Event->Header, 0, "KeResetEvent");
 }
 
 VOID NTAPI KeClearEvent(PRKEVENT Event) {
+    iocsq_log_of_driver("KeClearEvent");
     set_signal(&Event->Header, 0, "KeClearEvent");
 }
 
@@ -187,6 +190,7 @@ LONG NTAPI KeReleaseSemaphore(PRKSEMAPHORE Semaphore, KPRIORITY Increment, LONG 
                               BOOLEAN Wait) {
     (void)Increment, (void)Wait;
     iocsq_expect_header(&Semaphore->Header, "KeReleaseSemaphore");
+    iocsq_log_of_driver("KeReleaseSemaphore");
     iocsq_lock_state();
     LONG before = Semaphore->Header.SignalState;
     if (Adjustment < 1 || Adjustment > Semaphore->Limit - before) {

@@ -1,8 +1,9 @@
 /* What iocsq is to know of @NAME@ beside its code: IOCSQ_POLICY of iocsq_test.h has more. */
 #include "iocsq_test.h"
 
-/* A read may wait for as long as no write comes. What may not wait has to be completed within two
- * seconds. */
+/* Of the skeleton's driver.c: a read may wait for as long as no write comes. This hides each lost
+ * wake-up of a read, so say here what your own driver lets wait, or put IocsqNoneWaits in its
+ * place. What may not wait has to be completed within two seconds. */
 static BOOLEAN Waits(PIRP Irp) {
     return IoGetCurrentIrpStackLocation(Irp)->MajorFunction == IRP_MJ_READ;
 }

@@ -34,11 +34,11 @@ ends_with() {
 }
 
 # Each schedule of some scenarios with at most one preemption, for each right driver, and for those of the usual ones whose
-# peeks have effects; of each scenario for one of them.
+# peeks have effects, and those without an IO_CSQ; of each scenario for one of them.
 # With the address sanitizer each run is a process of its own: the schedules are as many.
 run_bounded_right() {
   local driver program=$work/bounded count scenarios=$top/iocsq/scenarios
-  for driver in "${drivers[@]}" usual/{current,idle}; do
+  for driver in "${drivers[@]}" "${hand[@]}" usual/{current,idle}; do
     if ! TEST=bounded iocsq_build "$program" "$driver" 0 "${compilers[0]}" -O1 2>"$work/errors"; then
       fail "bounded, $driver: not compiled" "$work/errors"
     else

@@ -1,6 +1,7 @@
 /* Every schedule of small scenarios with at most PREEMPTIONS preemptions:
  *
  *     bounded PREEMPTIONS SCENARIO..             each scenario is a file; the last line sums all up
+ *     bounded --seconds N PREEMPTIONS SCENARIO.. ends after N seconds, and says what was run
  *     bounded --depth DEPTH RUNS SCENARIO..      RUNS runs of each, by priorities that are drawn
  *     bounded --schedule SCHEDULE SCENARIO       this one schedule alone, as the report of a wrong
  *                                                one names it
@@ -26,15 +27,8 @@
  * (Waits), each has to end before that, as in patient.c.
  */
 #define _POSIX_C_SOURCE 200809L
-#include "program.h"
+#include "levels.h"
 
-#include <signal.h>
-#include <string.h>
-#include <time.h>
-
-#define USAGE                                                                              \
-    "bounded PREEMPTIONS SCENARIO.., bounded --depth DEPTH RUNS SCENARIO.. or bounded --schedule " \
-    "SCHEDULE SCENARIO"
 enum { THREADS = 3, CALLS = 16, FILES = 8, REQUESTS = 16, NAME = 16, LINE = 256 };
 enum { BYTES = 16, LENGTH = 2, PATIENCE = 2000 };
 
@@ -368,61 +362,6 @@ static void run(void *context) {
     close_all();
     reap_all();
     IocsqUnload(driver);
-}
-
-static const char *preemptions_of(ULONG count) {
-    static char text[32];
-    snprintf(text, sizeof text, "%u preemption%s", count, count == 1 ? "" : "s");
-    return text;
-}
-
-static double seconds(void) {
-    struct timespec now;
-    clock_gettime(CLOCK_MONOTONIC, &now);
-    return (double)now.tv_sec + (double)now.tv_nsec / 1e9;
-}
-
-/* Prints what came of a scenario. Whether something was inserted. */
-static bool explore(const char *path, ULONG preemptions, ULONG64 *schedules) {
-    read_scenario(path);
-    double begun = seconds();
-    IOCSQ_EXPLORED explored = IocsqExplore(run, NULL, preemptions);
-    *schedules += explored.Schedules;
-    if (explored.Status == 128 + SIGABRT) {
-        printf("%s: iocsq itself ended schedule %llu\n", path,
-               (unsigned long long)explored.Schedules);
-        printf("%llu schedules, at most %s, not all run\n", (unsigned long long)*schedules,
-               preemptions_of(explored.Preemptions));
-        exit(explored.Status);
-    }
-    if (explored.Status != 0) {
-        printf("%s: schedule %llu is wrong, with %s and none with fewer: --schedule %s shows it "
-               "again\n",
-               path, (unsigned long long)explored.Schedules, preemptions_of(explored.Preemptions),
-               explored.Schedule[0] ? explored.Schedule : "0:0");
-        printf("%llu schedules, at most %s, not all run, 1 wrong\n", (unsigned long long)*schedules,
-               preemptions_of(explored.Preemptions));
-        exit(explored.Status);
-    }
-    printf("%s: %llu schedules, %.0f in a second%s\n", path, (unsigned long long)explored.Schedules,
-           (double)explored.Schedules / (seconds() - begun + 1e-9),
-           explored.Inserted ? "" : ", nothing was inserted");
-    return explored.Inserted > 0;
-}
-
-static int explore_all(int argc, char **argv) {
-    ULONG preemptions = (ULONG)number_of_argument(argc, argv, 1, 0, 8, USAGE);
-    ULONG64 schedules = 0;
-    bool inserted = false;
-    for (int at = 2; at < argc; at++) {
-        inserted = explore(argv[at], preemptions, &schedules) || inserted;
-    }
-    if (!inserted) {
-        fprintf(stderr, "iocsq: nothing was inserted: no scenario sent what the driver queues\n");
-    }
-    printf("%llu schedules, at most %s, all run, none wrong%s\n", (unsigned long long)schedules,
-           preemptions_of(preemptions), inserted ? "" : ", and nothing inserted");
-    return inserted ? 0 : IOCSQ_TESTED_NOTHING;
 }
 
 /* One in so many runs shows a fault of this depth, or more. */

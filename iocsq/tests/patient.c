@@ -5,7 +5,8 @@
  *
  *     patient THREADS ROUNDS SEED    one thread runs at a time, as the seed draws
  *
- * It ends as the storm does; with 71 also where no request was queued.
+ * It ends as the storm does; with 71 also where no request was queued, for which it goes on up to
+ * the most rounds.
  */
 #include "program.h"
 
@@ -108,15 +109,17 @@ int main(int argc, char **argv) {
     for (int at = 0; at < threads; at++) {
         users[at].dice = (uint32_t)at * 7919u + seed * 104729u + 1;
     }
-    for (int at = 0; at < rounds; at++) {
+    for (int at = 0; at < rounds || (IocsqCounts().Inserted == 0 && at < ROUNDS); at++) {
         run_round(threads, at % 2 != 0);
     }
     IocsqUnload(driver);
-    printf("inserted %llu, %lu requests ended in their time, %lu waited as they may\n",
+    printf("inserted %llu, %lu requests ended in their time, %lu waited as they may "
+           "(Waits of the policy)\n",
            (unsigned long long)IocsqCounts().Inserted, ended, waiting);
     if (IocsqCounts().Inserted == 0) {
-        fprintf(stderr, "iocsq: nothing was inserted: no request reached a queue (do the driver's "
-                        "control codes stand in DriverControls?)\n");
+        fprintf(stderr, "iocsq: nothing was inserted: no request reached a queue, or waited with a "
+                        "cancel routine (do the driver's control codes stand in "
+                        "DriverControls?)\n");
         return IOCSQ_TESTED_NOTHING;
     }
     return 0;

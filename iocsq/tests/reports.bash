@@ -70,6 +70,8 @@ run_places() {
       "^  If the driver means it, the Match of its policy says what it means. Otherwise it isn't" "$storm" 6 3000 1 turns
   iocsq_build "$storm" usual/current 1 "$@" &&
     expect "places: no peek but the framework's, as the policy says" never_peeked "$storm" 6 3000 1 turns
+  iocsq_build "$storm" usual/current 2 "$@" && expect "peeks: what iocsq's own ones write is undone" "$storm" 6 3000 1 turns
+  iocsq_build "$storm" usual/idle 2 "$@" && expect "peeks: the device isn't idle by iocsq's own" "$storm" 6 3000 1 turns
   iocsq_build "$storm" drivers/filter 3 "$@" &&
     expect "places: a bad address" ends_so 139 "^iocsq: t[0-9]+: the driver used a bad address$" \
       "^  (called by|at) filter.c:[0-9]+, in PassOn$" "$storm" 6 3000 1 turns
@@ -82,6 +84,48 @@ run_places() {
   iocsq_build "$storm" drivers/busy 2 "$@" &&
     expect "places: the history of an IRP that was never completed" ends_so "$disagrees" "and was never completed$" \
       "^ +[0-9]+ t[0-9]+ +CsqRemoveIrp\\(irp [0-9]+\\)$" "$storm" 6 3000 1 turns
+}
+
+# writes_schedules PATTERN STORM: a seed of the storm writes each different schedule of requests that are in no IO_CSQ, and
+# one of them has this; with `none`, none has an end that follows the routine at once.
+writes_schedules() {
+  rm -f "$work/schedules"
+  IOCSQ_SCHEDULES=$work/schedules "$2" 6 1000 1 turns || return
+  sort "$work/schedules" | uniq -c
+  if [[ $1 == none ]]; then
+    ! grep -qE 'arm 0;p[0-9]+ end' "$work/schedules" && grep -q 'arm 0;p1 test 0' "$work/schedules"
+  else
+    grep -qE -- "$1" "$work/schedules"
+  fi
+}
+
+# The schedules of a storm, and what csqsim says of them: right drivers are accepted, and where a look is missing that is
+# refused without the race.
+run_judge() {
+  local driver number pattern csqsim=${CSQSIM:-$top/crates/csqsim/out/csqsim}
+  while read -r driver number pattern; do
+    iocsq_build "$work/judged" "$driver" "$number" "$@" 2>"$work/errors" || fail "judge, $driver: not compiled" "$work/errors"
+    expect "judge, $driver $number: its schedules" writes_schedules "$pattern" "$work/judged"
+    if [[ ! -f $csqsim || ! -x $csqsim ]]; then
+      skip "judge, $driver $number" "there is no $csqsim (rt ci builds it)"
+    elif [[ $pattern == none ]]; then
+      expect "judge, $driver: csqsim accepts all" "$top/iocsq/judge" "$work/schedules" "$csqsim"
+    else
+      expect "judge, $driver $number: csqsim refuses" refused "NotNext" "$top/iocsq/judge" "$work/schedules" "$csqsim"
+    fi
+  done <<'END'
+hand/own 0 none
+hand/slot 0 none
+hand/start 0 none
+hand/system 0 none
+hand/timed 0 none
+hand/worker 0 none
+usual/transfer 0 none
+hand/own 2 p1 arm 0;p1 end
+hand/own 3 p1 test 0;p1 arm 0
+hand/worker 3 rearm 0;p[0-9]+ end
+END
+  expect "judge: no file" refused "name a file of schedules" "$top/iocsq/judge" "$work/none"
 }
 
 # The results of a right driver, and what its three runs covered together: check_passes STORM

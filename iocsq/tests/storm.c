@@ -47,7 +47,8 @@ static void reap(struct request *r) {
     switch (IocsqStatus(r->sent)) {
     case STATUS_SUCCESS: succeeded++; break;
     case STATUS_CANCELLED: cancelled++; break;
-    case STATUS_TIMEOUT: timed_out++; break;
+    case STATUS_TIMEOUT:
+    case STATUS_IO_TIMEOUT: timed_out++; break;
     default: refused++;
     }
     IocsqFree(r->sent);

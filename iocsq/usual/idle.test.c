@@ -1,5 +1,6 @@
 /* What the checker is to know of idle.c: its peeks say that the device is idle, and it ends each
- * request by itself. With WRONG 2 the policy is wrong, and says nothing of the peeks. */
+ * request by itself. With WRONG 2 the policy says nothing of the peeks, so iocsq undoes what its
+ * own ones write. */
 #include "iocsq_test.h"
 
 extern const IOCSQ_POLICY DriverPolicy;

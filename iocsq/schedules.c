@@ -1,0 +1,145 @@
+/* The different schedules of a run's IRPs that had a cancel routine of the driver's own: what the
+ * queue beside an IO_CSQ decides at once, is decided of these by a replay of their steps. Each new
+ * one is noted in one place (note): there it is written to the file that IOCSQ_SCHEDULES names,
+ * which iocsq/judge has csqsim replay. */
+#include "internal.h"
+
+#include <fcntl.h>
+#include <stdlib.h>
+#include <unistd.h>
+
+enum { SCHEDULES = 1024, LINE = 32 * IOCSQ_STEPS };
+
+/* In memory of its own: the bounded mode puts the program's variables back before each run, and
+ * this is of all runs. */
+static struct noted {
+    struct iocsq_schedules_noted counts;
+    uint32_t count;
+    uint64_t hashes[SCHEDULES];
+    struct iocsq_schedule schedules[SCHEDULES];
+} *noted;
+
+__attribute__((constructor)) static void allocate_schedules(void) {
+    noted = calloc(1, sizeof *noted);
+    if (!noted) {
+        abort();
+    }
+}
+
+struct iocsq_schedules_noted iocsq_schedules_noted(void) {
+    return noted->counts;
+}
+
+const struct iocsq_schedule *iocsq_schedule_number(uint32_t number) {
+    return number < noted->count ? &noted->schedules[number] : NULL;
+}
+
+/* ---- The file ---- */
+static void write_line(const char *line, size_t length) {
+    const char *path = getenv("IOCSQ_SCHEDULES");
+    if (!path) {
+        return;
+    }
+    int file = open(path, O_WRONLY | O_CREAT | O_APPEND, 0644);
+    if (file < 0 || write(file, line, length) != (ssize_t)length) {
+        iocsq_fail("IOCSQ_SCHEDULES: %s can't be written", path);
+    }
+    close(file);
+}
+
+/* The steps on one line, as they are compared too. Returns its length. */
+static size_t write_steps(char line[LINE], const struct iocsq_schedule *s) {
+    size_t used = 0;
+    for (uint32_t at = 0; at < s->count; at++) {
+        const struct iocsq_step *step = &s->steps[at];
+        used += (size_t)snprintf(line + used, LINE - used, "p%u %s%s%c", step->pass, step->name,
+                                 iocsq_step_irp(step), at + 1 < s->count ? ';' : '\n');
+    }
+    return used;
+}
+
+static void write_left_out(const char *why) {
+    char line[LINE];
+    int length = snprintf(line, sizeof line, "# left out: %s\n", why);
+    write_line(line, (size_t)length);
+}
+
+/* ---- Which are there ---- */
+static uint64_t hash_of(const char *line, size_t length) {
+    uint64_t hash = 14695981039346656037u; /* FNV-1a */
+    for (size_t at = 0; at < length; at++) {
+        hash = (hash ^ (unsigned char)line[at]) * 1099511628211u;
+    }
+    return hash;
+}
+
+static bool is_noted(uint64_t hash) {
+    for (uint32_t at = 0; at < noted->count; at++) {
+        if (noted->hashes[at] == hash) {
+            return true;
+        }
+    }
+    return false;
+}
+
+/* A schedule that none before equals. */
+static void note(const struct iocsq_schedule *s, uint64_t hash, const char *line, size_t length) {
+    if (noted->count == SCHEDULES) {
+        iocsq_fail("more than %u different schedules", (unsigned)SCHEDULES);
+    }
+    noted->hashes[noted->count] = hash;
+    noted->schedules[noted->count++] = *s;
+    write_line(line, length);
+}
+
+static bool is_cancelling(const struct iocsq_schedule *s, uint32_t pass) {
+    bool cancels = false;
+    for (uint32_t at = 0; at < s->count; at++) {
+        if (s->steps[at].pass == pass) {
+            cancels = strcmp(s->steps[at].name, "flag") == 0;
+        }
+    }
+    return cancels;
+}
+
+/* A cancel that is under way as the IRP is completed finds no routine any more. Whether there is
+ * room for that step. */
+static bool end_cancels(struct iocsq_schedule *s) {
+    for (uint32_t pass = 1; pass <= s->passes; pass++) {
+        if (is_cancelling(s, pass) && s->count < IOCSQ_STEPS) {
+            struct iocsq_step take = { "take", pass, "IoCancelIrp" };
+            s->steps[s->count++] = take;
+        } else if (is_cancelling(s, pass)) {
+            return false;
+        }
+    }
+    return true;
+}
+
+static bool can_be_judged(const struct iocsq_irp *i, struct iocsq_schedule *s, const char **why) {
+    if (!iocsq_schedule_of(i, s, why)) {
+        return false;
+    }
+    *why = "it has more steps than iocsq keeps";
+    return i->place != IOCSQ_DONE || end_cancels(s);
+}
+
+void iocsq_note_schedule(const struct iocsq_irp *i) {
+    struct iocsq_schedule s;
+    const char *why;
+    char line[LINE];
+    if (!i->hand.armed || !iocsq_in_turns()) {
+        return;
+    }
+    if (!can_be_judged(i, &s, &why)) {
+        noted->counts.left_out++;
+        write_left_out(why);
+        return;
+    }
+    noted->counts.irps++;
+    size_t length = write_steps(line, &s);
+    uint64_t hash = hash_of(line, length);
+    if (!is_noted(hash)) {
+        note(&s, hash, line, length);
+    }
+}
