@@ -2,4 +2,6 @@ pub mod Imports
 pub mod Holding
 pub mod OnTheHeap
 pub mod Called
+pub mod Handling
 pub mod LedgerCalled
+pub mod Replaying

@@ -1,0 +1,62 @@
+-- What the calls through the handle of a replay return to C.
+use Rattle.std.specs.Prelude.{◌≡◌, ◌↔◌, ◌<◌, ◌≤◌, ℕ, Bool, true, false, ◌&&◌, List, nat_le, Option, Some, None, IsSome, IfSome, IsTrue, Result, if◌then◌else◌}
+use Rattle.std.specs.Result.{result_ok}
+use Rattle.irp_core.specs.declared.ids.{IrpId.{IrpId}, PassId.{PassId}}
+use Rattle.irp_core.specs.declared.refusals.StepRefused.{StepRefused}
+use Rattle.irp_core.specs.declared.step.Step.{Step}
+use Rattle.irp_core.specs.Runs.{IsAtRest}
+use Rattle.csq_c.specs.Replays.{Follows, MakesStep, Numbered, ReplayState, call_of, run_of, size_in}
+use Rattle.csq_c.specs.ReplayShapes.{IsPlacedSo, inside_of, refusal_written, step_code, step_named}
+use Rattle.csq_c.specs.Shapes.{set_to}
+use Rattle.csq_c.specs.declared.codes.Code.{Code, TheVariants.{Done, UnknownIrp, UnknownPass, Holding, BadSize, EmptyHandle}}
+use Rattle.csq_c.specs.declared.replay.shapes.{CsqInside.{CsqInside}, CsqPlaced.{CsqPlaced}, CsqRefusal.{CsqRefusal}, CsqStep.{CsqStep}}
+
+-- what freeing a replay returns
+abbrev pub free_replay_code : Option ReplayState → Code
+free_replay_code None = EmptyHandle
+free_replay_code (Some s) = Done
+
+-- a step is made or refused, and its answer is written
+pub record Steps (c : CsqStep) (step : Step) (s s' : ReplayState) (code : Code) (found found' : ℕ) (refusal refusal' : CsqRefusal) : Type 0 where
+  pub answer : Result ℕ StepRefused
+  pub makes : MakesStep c.number step answer s s'
+  pub code_is : code ≡ step_code answer
+  pub found_is : found' ≡ set_to (result_ok answer) found
+  pub refusal_is : (W : List Numbered) → Follows s W → refusal' ≡ refusal_written W step.pass answer refusal
+
+-- a step of a kind that there isn't is refused as that, and nothing is changed
+pub record OnStep (c : CsqStep) (code : Code) (kept : Type 0) (made : Step → Type 0) : Type 0 where
+  pub unknown : step_named c ≡ None → (code ≡ BadSize) × kept
+  pub known : (step : Step) → step_named c ≡ Some step → made step
+
+-- the code says whether all is at rest
+pub record ShowsRest (s : ReplayState) (code : Code) : Type 0 where
+  pub rest : Bool
+  pub is_rest : (W : List Numbered) → Follows s W → (IsTrue rest ↔ IsAtRest (run_of W))
+  pub code_is : code ≡ (if rest then Done else Holding)
+
+-- whether there is such an IRP, and what stands there once its place is written
+abbrev pub placed_code : Option CsqPlaced → Code
+placed_code None = UnknownIrp
+placed_code (Some placed) = Done
+
+abbrev pub placed_written : Option CsqPlaced → CsqPlaced → CsqPlaced
+placed_written None old = old
+placed_written (Some placed) old = placed
+
+-- where IRP n is, if there is such an IRP
+pub record ShowsIrp (n : IrpId) (s : ReplayState) (code : Code) (old new : CsqPlaced) : Type 0 where
+  pub answer : Option CsqPlaced
+  pub known : IsSome answer ↔ (n.0 < (size_in s).irps)
+  pub placed : (W : List Numbered) → Follows s W → IfSome answer (IsPlacedSo (size_in s) (run_of W) n)
+  pub code_is : code ≡ placed_code answer
+  pub new_is : new ≡ placed_written answer old
+
+-- whether there is such a pass
+abbrev pub has_pass : ReplayState → PassId → Bool
+has_pass s p = nat_le 1 p.0 && nat_le p.0 (size_in s).passes
+
+-- what p is inside of, if there is such a pass
+pub record ShowsPass (p : PassId) (s : ReplayState) (code : Code) (old new : CsqInside) : Type 0 where
+  pub code_is : code ≡ (if has_pass s p then Done else UnknownPass)
+  pub new_is : (W : List Numbered) → Follows s W → new ≡ (if has_pass s p then inside_of (call_of W p) else old)
