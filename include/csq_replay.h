@@ -147,9 +147,6 @@ CSQ_NODISCARD uint32_t csq_replay_rest(const struct csq_replay *replay);
 /* Stores where an IRP is. CSQ_UNKNOWN_IRP. */
 uint32_t csq_replay_irp(const struct csq_replay *replay, uint32_t irp, struct csq_placed *placed);
 
-/* Stores what a pass is inside of. CSQ_UNKNOWN_PASS. */
-uint32_t csq_replay_pass(const struct csq_replay *replay, uint32_t pass, struct csq_inside *inside);
-
 #ifdef __cplusplus
 }
 #endif

@@ -296,16 +296,3 @@ uint32_t csq_replay_irp(const struct csq_replay *replay, uint32_t irp, struct cs
     placed->cancelled = of->flag;
     return CSQ_OK;
 }
-
-uint32_t csq_replay_pass(const struct csq_replay *replay, uint32_t pass,
-                         struct csq_inside *inside) {
-    const struct replay *it = replay->at;
-    if (!it) {
-        return CSQ_EMPTY_HANDLE;
-    }
-    if (!is_in_range(pass, it->passes)) {
-        return CSQ_UNKNOWN_PASS;
-    }
-    *inside = it->inside[pass];
-    return CSQ_OK;
-}

@@ -23,7 +23,6 @@ static struct csq_replay made(uint32_t life) {
 static const struct csq_inside no_inside = {
     UNWRITTEN, UNWRITTEN, { UNWRITTEN, UNWRITTEN }, UNWRITTEN
 };
-static const struct csq_inside outside = { 0, 0, { 0, 0 }, 0 };
 
 static int same_inside(const struct csq_inside *one, const struct csq_inside *other) {
     return one->call == other->call && one->next == other->next && one->irp.irp == other->irp.irp &&
@@ -202,55 +201,42 @@ static const struct {
     const char *steps;
     uint32_t rest;
     struct csq_placed placed; /* of IRP 0 */
-    struct csq_inside inside; /* of pass 2 */
 } led[] = {
-    { "", CSQ_OK, { 0, CSQ_PLACE_HOME, 0, 0, 0 }, { 0, 0, { 0, 0 }, 0 } },
-    { "p2 arm 0;", CSQ_HOLDING, { 0, CSQ_PLACE_LISTED, 0, 0, 0 }, { 1, 2, { 0, 0 }, 10 } },
-    { "p1 arm 0; p1 test 0;", CSQ_OK, { 0, CSQ_PLACE_LISTED, 0, 0, 0 }, { 0, 0, { 0, 0 }, 0 } },
-    { "p2 flag 0;", CSQ_HOLDING, { 0, CSQ_PLACE_HOME, 0, 0, 1 }, { 3, 6, { 0, 0 }, 10 } },
-    { OWED, CSQ_HOLDING, { 0, CSQ_PLACE_OWED, 2, 0, 1 }, { 0, 0, { 0, 0 }, 0 } },
-    { OWED "p2 disarm 0;", CSQ_HOLDING, { 0, CSQ_PLACE_OWED, 2, 0, 1 }, { 2, 3, { 0, 0 }, 50 } },
-    { OWED "p2 out 0;", CSQ_HOLDING, { 0, CSQ_PLACE_HELD, 2, 0, 1 }, { 0, 0, { 0, 0 }, 0 } },
+    { "", CSQ_OK, { 0, CSQ_PLACE_HOME, 0, 0, 0 } },
+    { "p2 arm 0;", CSQ_HOLDING, { 0, CSQ_PLACE_LISTED, 0, 0, 0 } },
+    { "p1 arm 0; p1 test 0;", CSQ_OK, { 0, CSQ_PLACE_LISTED, 0, 0, 0 } },
+    { "p2 flag 0;", CSQ_HOLDING, { 0, CSQ_PLACE_HOME, 0, 0, 1 } },
+    { OWED, CSQ_HOLDING, { 0, CSQ_PLACE_OWED, 2, 0, 1 } },
+    { OWED "p2 disarm 0;", CSQ_HOLDING, { 0, CSQ_PLACE_OWED, 2, 0, 1 } },
+    { OWED "p2 out 0;", CSQ_HOLDING, { 0, CSQ_PLACE_HELD, 2, 0, 1 } },
     { OWED "p2 out 0; p2 done 0;", CSQ_OK,
-      { 0, CSQ_PLACE_COMPLETED, 2, CSQ_STATUS_CANCELLED, 1 }, { 0, 0, { 0, 0 }, 0 } },
-    { HELD, CSQ_HOLDING, { 0, CSQ_PLACE_HELD, 1, 0, 0 }, { 0, 0, { 0, 0 }, 0 } },
-    { DONE_0, CSQ_OK, { 0, CSQ_PLACE_COMPLETED, 1, 0, 0 }, { 0, 0, { 0, 0 }, 0 } },
-    { OWED "p2 out 0; p2 done 0; p1 renew 0;", CSQ_OK, { 1, CSQ_PLACE_HOME, 0, 0, 0 },
-      { 0, 0, { 0, 0 }, 0 } },
-    { DONE_0 "p1 renew 0; p2 arm 0@1;", CSQ_HOLDING, { 1, CSQ_PLACE_LISTED, 0, 0, 0 },
-      { 1, 2, { 0, 1 }, 60 } },
+      { 0, CSQ_PLACE_COMPLETED, 2, CSQ_STATUS_CANCELLED, 1 } },
+    { HELD, CSQ_HOLDING, { 0, CSQ_PLACE_HELD, 1, 0, 0 } },
+    { DONE_0, CSQ_OK, { 0, CSQ_PLACE_COMPLETED, 1, 0, 0 } },
+    { OWED "p2 out 0; p2 done 0; p1 renew 0;", CSQ_OK, { 1, CSQ_PLACE_HOME, 0, 0, 0 } },
+    { DONE_0 "p1 renew 0; p2 arm 0@1;", CSQ_HOLDING, { 1, CSQ_PLACE_LISTED, 0, 0, 0 } },
 };
 
 static void each_look_says_what_the_steps_led_to(void) {
     for (size_t row = 0; row < sizeof led / sizeof *led; row++) {
         struct csq_replay replay = made(0);
         struct csq_placed placed;
-        struct csq_inside inside;
         IS(code_of(&replay, led[row].steps), CSQ_OK);
         IS(csq_replay_rest(&replay), led[row].rest);
         IS(csq_replay_irp(&replay, 0, &placed), CSQ_OK);
         CHECK(memcmp(&placed, &led[row].placed, sizeof placed) == 0);
-        IS(csq_replay_pass(&replay, 2, &inside), CSQ_OK);
-        CHECK(same_inside(&inside, &led[row].inside));
         IS(csq_replay_free(&replay), CSQ_OK);
     }
 }
 
-static void what_there_is_not_is_refused(void) {
-    static const uint32_t passes[] = { 0, PASSES + 1, UINT32_MAX };
+static void an_irp_that_there_is_not_is_refused(void) {
     struct csq_replay replay = made(0);
     struct csq_placed placed = { UNWRITTEN, UNWRITTEN, UNWRITTEN, UNWRITTEN, UNWRITTEN };
-    struct csq_inside inside = no_inside;
     IS(csq_replay_irp(&replay, IRPS, &placed), CSQ_UNKNOWN_IRP);
     IS(csq_replay_irp(&replay, UINT32_MAX, &placed), CSQ_UNKNOWN_IRP);
     IS(placed.life & placed.place & placed.pass & placed.status & placed.cancelled, UNWRITTEN);
-    for (int at = 0; at < 3; at++) {
-        IS(csq_replay_pass(&replay, passes[at], &inside), CSQ_UNKNOWN_PASS);
-    }
-    CHECK(same_inside(&inside, &no_inside));
     IS(csq_replay_irp(&replay, IRPS - 1, &placed), CSQ_OK);
-    IS(csq_replay_pass(&replay, PASSES, &inside), CSQ_OK);
-    CHECK(same_inside(&inside, &outside));
+    IS(placed.place, CSQ_PLACE_HOME);
     IS(csq_replay_free(&replay), CSQ_OK);
 }
 
@@ -260,16 +246,14 @@ static void an_empty_handle_is_refused_by_each_call(void) {
     struct csq_replay replay = { NULL };
     struct csq_step step = { 1, 1, CSQ_STEP_ARM, { 0, 0 } };
     struct csq_placed placed = { UNWRITTEN, 0, 0, 0, 0 };
-    struct csq_inside inside = no_inside;
     found = refusal.pass = UNWRITTEN;
     IS(csq_replay_step(&replay, &step, &found, &refusal), CSQ_EMPTY_HANDLE);
     step.kind = 0;
     IS(csq_replay_step(&replay, &step, &found, &refusal), CSQ_EMPTY_HANDLE);
     IS(csq_replay_rest(&replay), CSQ_EMPTY_HANDLE);
     IS(csq_replay_irp(&replay, 9, &placed), CSQ_EMPTY_HANDLE);
-    IS(csq_replay_pass(&replay, 9, &inside), CSQ_EMPTY_HANDLE);
     IS(csq_replay_free(&replay), CSQ_EMPTY_HANDLE);
-    IS(found & refusal.pass & placed.life & inside.call, UNWRITTEN);
+    IS(found & refusal.pass & placed.life, UNWRITTEN);
     CHECK(!replay.at);
 }
 
@@ -322,7 +306,7 @@ int main(void) {
     RUN(a_refusal_changes_nothing);
     RUN(a_kind_that_there_is_not_stores_nothing);
     RUN(each_look_says_what_the_steps_led_to);
-    RUN(what_there_is_not_is_refused);
+    RUN(an_irp_that_there_is_not_is_refused);
     RUN(an_empty_handle_is_refused_by_each_call);
     RUN(a_filled_handle_is_not_filled_again);
     RUN(a_size_out_of_range_is_refused);

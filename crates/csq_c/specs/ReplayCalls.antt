@@ -1,15 +1,15 @@
 -- What the calls through the handle of a replay return to C.
-use Rattle.std.specs.Prelude.{◌≡◌, ◌↔◌, ◌<◌, ◌≤◌, ℕ, Bool, true, false, ◌&&◌, List, nat_le, Option, Some, None, IsSome, IfSome, IsTrue, Result, if◌then◌else◌}
+use Rattle.std.specs.Prelude.{◌≡◌, ◌↔◌, ◌<◌, ℕ, Bool, List, Option, Some, None, IsSome, IfSome, IsTrue, Result, if◌then◌else◌}
 use Rattle.std.specs.Result.{result_ok}
-use Rattle.irp_core.specs.declared.ids.{IrpId.{IrpId}, PassId.{PassId}}
+use Rattle.irp_core.specs.declared.ids.IrpId.{IrpId}
 use Rattle.irp_core.specs.declared.refusals.StepRefused.{StepRefused}
 use Rattle.irp_core.specs.declared.step.Step.{Step}
 use Rattle.irp_core.specs.Runs.{IsAtRest}
-use Rattle.csq_c.specs.Replays.{Follows, MakesStep, Numbered, ReplayState, call_of, run_of, size_in}
-use Rattle.csq_c.specs.ReplayShapes.{IsPlacedSo, inside_of, refusal_written, step_code, step_named}
+use Rattle.csq_c.specs.Replays.{Follows, MakesStep, Numbered, ReplayState, run_of, size_in}
+use Rattle.csq_c.specs.ReplayShapes.{IsPlacedSo, refusal_written, step_code, step_named}
 use Rattle.csq_c.specs.Shapes.{set_to}
-use Rattle.csq_c.specs.declared.codes.Code.{Code, TheVariants.{Done, UnknownIrp, UnknownPass, Holding, BadSize, EmptyHandle}}
-use Rattle.csq_c.specs.declared.replay.shapes.{CsqInside.{CsqInside}, CsqPlaced.{CsqPlaced}, CsqRefusal.{CsqRefusal}, CsqStep.{CsqStep}}
+use Rattle.csq_c.specs.declared.codes.Code.{Code, TheVariants.{Done, UnknownIrp, Holding, BadSize, EmptyHandle}}
+use Rattle.csq_c.specs.declared.replay.shapes.{CsqPlaced.{CsqPlaced}, CsqRefusal.{CsqRefusal}, CsqStep.{CsqStep}}
 
 -- what freeing a replay returns
 abbrev pub free_replay_code : Option ReplayState → Code
@@ -51,12 +51,3 @@ pub record ShowsIrp (n : IrpId) (s : ReplayState) (code : Code) (old new : CsqPl
   pub placed : (W : List Numbered) → Follows s W → IfSome answer (IsPlacedSo (size_in s) (run_of W) n)
   pub code_is : code ≡ placed_code answer
   pub new_is : new ≡ placed_written answer old
-
--- whether there is such a pass
-abbrev pub has_pass : ReplayState → PassId → Bool
-has_pass s p = nat_le 1 p.0 && nat_le p.0 (size_in s).passes
-
--- what p is inside of, if there is such a pass
-pub record ShowsPass (p : PassId) (s : ReplayState) (code : Code) (old new : CsqInside) : Type 0 where
-  pub code_is : code ≡ (if has_pass s p then Done else UnknownPass)
-  pub new_is : (W : List Numbered) → Follows s W → new ≡ (if has_pass s p then inside_of (call_of W p) else old)

@@ -1,10 +1,9 @@
 //! What the handle of a replay stands for: the machine, and what each pass is inside of.
-ghost use Rattle.std.specs.Prelude.{◌≡◌, ◌↔◌, ◌+◌, ◌<◌, Err, List, IfOk, IfSome, IsSome, IsTrue, None, Some, if◌then◌else◌, length, replicate, slice_index_or, slice_set};
+ghost use Rattle.std.specs.Prelude.{◌≡◌, ◌↔◌, ◌+◌, ◌<◌, Err, List, IfOk, IfSome, IsSome, IsTrue, length, replicate, slice_index_or, slice_set};
 ghost use Rattle.irp_core.specs.Lives.{present};
 ghost use Rattle.irp_core.specs.Runs.{IsAtRest};
 ghost use Rattle.csq_c.specs.Replays.{Follows, IsGoodReplaySize, IsNewReplay, IsOwner, MakesStep, Numbered, call_after, call_at, no_call, run_of, size_in};
-ghost use Rattle.csq_c.specs.ReplayCalls.{has_pass};
-ghost use Rattle.csq_c.specs.ReplayShapes.{IsPlacedSo, inside_of, refusal_by};
+ghost use Rattle.csq_c.specs.ReplayShapes.{IsPlacedSo, refusal_by};
 
 use crate::replay::codes::{life_asked, pass_asked};
 use crate::replay::pass_call::PassCall;
@@ -102,17 +101,6 @@ impl ReplayBody {
             → (IsTrue result ↔ IsAtRest (run_of W)) }
     {
         self.machine.at_rest()
-    }
-
-    /// What a pass is inside of, if there is such a pass.
-    pub(crate) fn inside(&self, pass: PassId) -> Option<CsqInside>
-        ensures { result ≡ (if has_pass self.now pass then Some (inside_of (call_at self.now pass)) else None) }
-    {
-        if 1 <= pass.0 && pass.0 <= self.machine.passes() {
-            Some(CsqInside::of(self.call_at(pass)))
-        } else {
-            None
-        }
     }
 
     /// The pass that owes an IRP in its present life, if one does.

@@ -3,7 +3,7 @@
 ghost use Rattle.std.specs.Prelude.{◌≡◌, ◌⊎◌, ◌<◌, ◌↔◌, IfSome, None};
 ghost use Rattle.csq_c.specs.Codes.{number_of};
 ghost use Rattle.csq_c.specs.Handled.{LooksAtHandle, OnHandle};
-ghost use Rattle.csq_c.specs.ReplayCalls.{OnStep, ShowsIrp, ShowsPass, ShowsRest, Steps, free_replay_code};
+ghost use Rattle.csq_c.specs.ReplayCalls.{OnStep, ShowsIrp, ShowsRest, Steps, free_replay_code};
 ghost use Rattle.csq_c.specs.Replays.{IsGoodReplaySize, IsNewReplay};
 ghost use Rattle.csq_c.specs.Shapes.{irp_numbered};
 
@@ -12,9 +12,9 @@ use crate::handles::{CsqReplay, lend};
 use crate::hold::{boxed, fill, put, take};
 use crate::replay::body::ReplayBody;
 use crate::replay::codes::of_cause;
-use crate::replay::shapes::{CsqInside, CsqPlaced, CsqRefusal, CsqStep};
+use crate::replay::shapes::{CsqPlaced, CsqRefusal, CsqStep};
 use crate::shapes::CsqSize;
-use irp_core::{IrpId, PassId};
+use irp_core::IrpId;
 use std::alloc::Global;
 
 /// Makes a replay without a step, of so many IRPs and passes, with all IRPs in this life: CSQ_OK,
@@ -108,20 +108,5 @@ pub extern "C" fn csq_replay_irp(replay: &mut CsqReplay, irp: u32, placed: &mut 
         return Code::UnknownIrp.number();
     };
     *placed = there;
-    Code::Done.number()
-}
-
-/// Writes what a pass is inside of: CSQ_OK, or CSQ_UNKNOWN_PASS. Own rule.
-#[unsafe(no_mangle)]
-pub extern "C" fn csq_replay_pass(replay: &mut CsqReplay, pass: u32, inside: &mut CsqInside) -> u32
-    ensures { LooksAtHandle replay.old.boxed.body replay.new.boxed.body result
-        (inside.new ≡ inside.old)
-        (λ s code. ShowsPass (record { 0 = pass }) s code inside.old inside.new) }
-{
-    lend!(body in replay);
-    let Some(there) = body.inside(PassId(pass)) else {
-        return Code::UnknownPass.number();
-    };
-    *inside = there;
     Code::Done.number()
 }
