@@ -3,5 +3,4 @@ pub mod Holding
 pub mod OnTheHeap
 pub mod Called
 pub mod Handling
-pub mod LedgerCalled
 pub mod Replaying

@@ -1,5 +1,5 @@
 -- A replay follows the steps that led to it.
-use Rattle.std.proofs.Common.{◌≡◌, ◌⊎◌, inl, inr, ◌≤◌, ℕ, zero, suc, ◌+◌, ◌<◌, Bool, true, false, cond, List, [], ◌∷◌, Some, None, Ok, length, replicate, slice_index_or, slice_set, refl, ap, sym, subst, ◌∙◌, arith}
+use Rattle.std.proofs.Common.{◌≡◌, ◌⊎◌, inl, inr, ◌≤◌, ℕ, zero, suc, ◌+◌, ◌<◌, Bool, true, false, cond, List, [], ◌∷◌, Ok, length, replicate, slice_index_or, slice_set, refl, ap, sym, subst, ◌∙◌, arith}
 use Rattle.std.proofs.lemmas.Bool.{cases_lt}
 use Rattle.std.proofs.lemmas.List.{get_or-set_same, get_or-set_other, length-replicate, length-set}
 use Rattle.irp_core.proofs.Growing.{found_bit}
@@ -13,11 +13,7 @@ use Rattle.irp_core.specs.Runs.{Size, IsRun}
 use Rattle.irp_core.specs.Steps.{made, same_pass}
 use Rattle.irp_core.specs.Words.{bit, found_by}
 use Rattle.csq_c.specs.Replays.{Follows, MakesStep, Numbered, ReplayState, begun_at, call_after, call_at, call_of, no_call, run_of, since, size_in}
-use Rattle.csq_c.specs.ReplayCalls.{OnStep}
-use Rattle.csq_c.specs.ReplayShapes.{step_named}
-use Rattle.csq_c.specs.declared.codes.Code.{Code, TheVariants.{BadSize}}
 use Rattle.csq_c.specs.declared.replay.pass_call.PassCall.{PassCall}
-use Rattle.csq_c.specs.declared.replay.shapes.CsqStep.{CsqStep}
 
 -- what a step finds is a bit
 pub found_small : (E : List Made) (k : Kind) → found_by E k < 2
@@ -107,20 +103,3 @@ module _ (number : ℕ) (step : Step) (found : ℕ) (s : ReplayState) (m : Machi
       refused = tt;
       size = same;
     }
-
--- a kind that there isn't is refused
-pub no_step : (c : CsqStep) (kept : Type 0) (called : Step → Type 0) → step_named c ≡ None → kept → OnStep c BadSize kept called
-no_step c kept called none is = record { unknown = λ _. (refl, is); known = λ step found. absurd (not_both step found) }
-  where
-    not_both : (step : Step) → step_named c ≡ Some step → ⊥
-    not_both step found = cc
-
--- and a step of one that there is, made
-pub one_step : (c : CsqStep) (step : Step) (code : Code) (kept : Type 0) (called : Step → Type 0) → step_named c ≡ Some step → called step → OnStep c code kept called
-one_step c step code kept called some is = record { unknown = λ none. absurd (not_both none); known = λ other found. subst called (same other found) is }
-  where
-    not_both : step_named c ≡ None → ⊥
-    not_both none = cc
-
-    same : (other : Step) → step_named c ≡ Some other → step ≡ other
-    same other found = cc

@@ -11,10 +11,10 @@ use Rattle.csq_ledger.specs.Calls.{counts_for}
 use Rattle.csq_ledger.specs.Fresh.{IsFreshLedger, with_one_pass}
 use Rattle.csq_ledger.specs.Ledgers.{LedgerState, knows, named_stage}
 use Rattle.csq_ledger.specs.declared.looks.Counts.{Counts}
-use Rattle.csq_c.specs.Handled.{LooksAtHandle, OnHandle}
+use Rattle.csq_c.specs.Handled.{LooksAtHandle, OnHandle, OnNumber}
 use Rattle.csq_c.specs.LedgerShapes.{look_of, why_numbered}
 use Rattle.csq_c.specs.Sizes.{IsGoodSize, given_size}
-use Rattle.csq_c.specs.declared.codes.Code.{Code, TheVariants.{Done, UnknownIrp, Holding, BadSize, EmptyHandle}}
+use Rattle.csq_c.specs.declared.codes.Code.{Code, TheVariants.{Done, UnknownIrp, Holding, EmptyHandle}}
 use Rattle.csq_c.specs.declared.handles.CsqLedger.{CsqLedger}
 use Rattle.csq_c.specs.declared.ledger.shapes.CsqLook.{CsqLook}
 use Rattle.csq_c.specs.declared.shapes.CsqSize.{CsqSize}
@@ -26,10 +26,9 @@ OnLedger ledger ledger' = OnHandle ledger.boxed.body ledger'.boxed.body
 abbrev pub LooksAtLedger : CsqLedger → CsqLedger → ℕ → Type 0 → (LedgerState → Code → Type 0) → Type 0
 LooksAtLedger ledger ledger' = LooksAtHandle ledger.boxed.body ledger'.boxed.body
 
--- a call for a reason is as defined for it. If the number stands for none, the code says so, and nothing is changed
-pub record OnWhy (number : ℕ) (code : Code) (kept : Type 0) (called : Why → Type 0) : Type 0 where
-  pub unknown : why_numbered number ≡ None → (code ≡ BadSize) × kept
-  pub known : (why : Why) → why_numbered number ≡ Some why → called why
+-- a call for a reason
+abbrev pub OnWhy : ℕ → Code → Type 0 → (Why → Type 0) → Type 0
+OnWhy number = OnNumber (why_numbered number)
 
 -- each number is in its range, but for the number of passes, which isn't looked at
 abbrev pub IsGoodLedgerSize : CsqSize → Type 0

@@ -6,9 +6,9 @@ use Rattle.irp_core.specs.declared.refusals.StepRefused.{StepRefused}
 use Rattle.irp_core.specs.declared.step.Step.{Step}
 use Rattle.irp_core.specs.Runs.{IsAtRest}
 use Rattle.csq_c.specs.Replays.{Follows, MakesStep, Numbered, ReplayState, run_of, size_in}
-use Rattle.csq_c.specs.ReplayShapes.{IsPlacedSo, refusal_written, step_code, step_named}
+use Rattle.csq_c.specs.ReplayShapes.{IsPlacedSo, refusal_written, step_code}
 use Rattle.csq_c.specs.Shapes.{set_to}
-use Rattle.csq_c.specs.declared.codes.Code.{Code, TheVariants.{Done, UnknownIrp, Holding, BadSize, EmptyHandle}}
+use Rattle.csq_c.specs.declared.codes.Code.{Code, TheVariants.{Done, UnknownIrp, Holding, EmptyHandle}}
 use Rattle.csq_c.specs.declared.replay.shapes.{CsqPlaced.{CsqPlaced}, CsqRefusal.{CsqRefusal}, CsqStep.{CsqStep}}
 
 -- what freeing a replay returns
@@ -23,11 +23,6 @@ pub record Steps (c : CsqStep) (step : Step) (s s' : ReplayState) (code : Code) 
   pub code_is : code ≡ step_code answer
   pub found_is : found' ≡ set_to (result_ok answer) found
   pub refusal_is : (W : List Numbered) → Follows s W → refusal' ≡ refusal_written W step.pass answer refusal
-
--- a step of a kind that there isn't is refused as that, and nothing is changed
-pub record OnStep (c : CsqStep) (code : Code) (kept : Type 0) (made : Step → Type 0) : Type 0 where
-  pub unknown : step_named c ≡ None → (code ≡ BadSize) × kept
-  pub known : (step : Step) → step_named c ≡ Some step → made step
 
 -- the code says whether all is at rest
 pub record ShowsRest (s : ReplayState) (code : Code) : Type 0 where

@@ -2,8 +2,9 @@
 //! `csq_replay_new` returns CSQ_EMPTY_HANDLE if the handle is empty.
 ghost use Rattle.std.specs.Prelude.{◌≡◌, ◌⊎◌, ◌<◌, ◌↔◌, IfSome, None};
 ghost use Rattle.csq_c.specs.Codes.{number_of};
-ghost use Rattle.csq_c.specs.Handled.{LooksAtHandle, OnHandle};
-ghost use Rattle.csq_c.specs.ReplayCalls.{OnStep, ShowsIrp, ShowsRest, Steps, free_replay_code};
+ghost use Rattle.csq_c.specs.Handled.{LooksAtHandle, OnHandle, OnNumber};
+ghost use Rattle.csq_c.specs.ReplayCalls.{ShowsIrp, ShowsRest, Steps, free_replay_code};
+ghost use Rattle.csq_c.specs.ReplayShapes.{step_named};
 ghost use Rattle.csq_c.specs.Replays.{IsGoodReplaySize, IsNewReplay};
 ghost use Rattle.csq_c.specs.Shapes.{irp_numbered};
 
@@ -61,7 +62,7 @@ pub extern "C" fn csq_replay_step(
 ) -> u32
     ensures { OnHandle replay.old.boxed.body replay.new.boxed.body result
         ((found.new ≡ found.old) × (refusal.new ≡ refusal.old))
-        (λ s s' code. OnStep step.now code
+        (λ s s' code. OnNumber (step_named step.now) code
         ((s' ≡ s) × (found.new ≡ found.old) × (refusal.new ≡ refusal.old))
         (λ named. Steps step.now named s s' code found.old found.new refusal.old refusal.new)) }
 {
