@@ -115,7 +115,7 @@ struct csq_placed {
     uint32_t place;     /* of enum csq_irp_place */
     uint32_t pass;      /* who owes it, holds it or completed it; 0 if it is home or listed */
     uint32_t status;    /* what it was completed with; 0 if it wasn't */
-    uint32_t cancelled; /* 1 if its Cancel flag is set, else 0 */
+    uint32_t cancelled; /* 1 if its Cancel flag is set, otherwise 0 */
 };
 
 /* ---- A replay's beginning and end ---- */
