@@ -2,26 +2,15 @@
 use Rattle.std.proofs.Common.{◌≡◌, ◌⊎◌, inl, inr, ◌≤◌, ℕ, zero, suc, ◌+◌, ◌<◌, Bool, true, false, cond, List, [], ◌∷◌, Ok, length, replicate, slice_index_or, slice_set, refl, ap, sym, subst, ◌∙◌, arith}
 use Rattle.std.proofs.lemmas.Bool.{cases_lt}
 use Rattle.std.proofs.lemmas.List.{get_or-set_same, get_or-set_other, length-replicate, length-set}
-use Rattle.irp_core.proofs.Growing.{found_bit}
 use Rattle.irp_core.proofs.Names.{same_pass-refl, same_pass-eq}
 use Rattle.irp_core.specs.declared.ids.PassId.{PassId}
-use Rattle.irp_core.specs.declared.step.{Kind.{Kind}, Made.{Made}}
+use Rattle.irp_core.specs.declared.step.{Made.{Made}, Step.{Step}}
 use Rattle.irp_core.specs.Inside.{inside, inside_after}
 use Rattle.irp_core.specs.MachineState.{MachineState, Agrees, size_of}
-use Rattle.irp_core.specs.declared.step.Step.{Step}
 use Rattle.irp_core.specs.Runs.{Size, IsRun}
 use Rattle.irp_core.specs.Steps.{made, same_pass}
-use Rattle.irp_core.specs.Words.{bit, found_by}
 use Rattle.csq_c.specs.Replays.{Follows, MakesStep, Numbered, ReplayState, begun_at, call_after, call_at, call_of, no_call, run_of, since, size_in}
 use Rattle.csq_c.specs.declared.replay.pass_call.PassCall.{PassCall}
-
--- what a step finds is a bit
-pub found_small : (E : List Made) (k : Kind) → found_by E k < 2
-found_small E k = go (found_bit E k).0 (found_bit E k).1
-  where
-    go : (f : Bool) → found_by E k ≡ bit f → found_by E k < 2
-    go true e = omega (arith, e)
-    go false e = omega (arith, e)
 
 -- none of the first passes, and not the next
 pub none_more : (F : PassId → Bool) (n : ℕ) → ((p : PassId) → 1 ≤ p.0 → p.0 ≤ n → F p ≡ false) → F (record { 0 = n + 1 }) ≡ false → (p : PassId) → 1 ≤ p.0 → p.0 ≤ n + 1 → F p ≡ false

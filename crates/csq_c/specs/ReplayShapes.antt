@@ -9,7 +9,7 @@ use Rattle.irp_core.specs.Completion.{IsPlace}
 use Rattle.irp_core.specs.Lives.{present, present_life}
 use Rattle.irp_core.specs.Runs.{Size}
 use Rattle.irp_core.specs.Words.{flagged}
-use Rattle.csq_c.specs.Replays.{Numbered, IsOwner, call_of, run_of}
+use Rattle.csq_c.specs.Replays.{Numbered, IsOwner, call_of}
 use Rattle.csq_c.specs.Shapes.{flag_number, irp_named}
 use Rattle.csq_c.specs.declared.codes.Code.{Code}
 use Rattle.csq_c.specs.declared.codes.Code.TheVariants as code

@@ -1,5 +1,5 @@
 -- What the handle of a replay stands for, and the steps that led to it.
-use Rattle.std.specs.Prelude.{◌≡◌, ◌↔◌, ℕ, ◌+◌, ◌≤◌, Bool, true, false, List, [], ◌∷◌, length, map, Option, Some, None, Result, Ok, Err, IfOk, IfErr, IsOk, OnErr, IsTrue, slice_index_or, if◌then◌else◌}
+use Rattle.std.specs.Prelude.{◌≡◌, ℕ, ◌+◌, ◌≤◌, true, false, List, [], ◌∷◌, length, map, Option, Some, None, Result, IfOk, IfErr, IsOk, OnErr, slice_index_or, if◌then◌else◌}
 use Rattle.irp_core.specs.declared.ids.{PassId.{PassId}, IrpLife.{IrpLife}}
 use Rattle.irp_core.specs.declared.inside.Inside.{Inside, TheVariants.{Nothing}}
 use Rattle.irp_core.specs.declared.refusals.StepRefused.{StepRefused}
