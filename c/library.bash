@@ -42,7 +42,7 @@ csq_compile() {
   ar rcs "$archive" "${objects[@]}"
 }
 
-csq_queue_files=(bench/c/plain_{queue,judges,list,ledger}.c)
+csq_queue_files=(bench/c/plain_{queue,judges,list,ledger,replay}.c)
 csq_layer_files=(c/requests/{calls,ends,make,wait}.c)
 
 # Prints the files to link, one a line, in the linker's order: csq_requests.h's code, which is compiled here and isn't proved,
@@ -73,7 +73,7 @@ csq_requests_library() {
   csq_compile "$1" "$archive" "${csq_layer_files[@]}" -- "${CC:-cc}" -O2 -fPIC && echo "$archive"
 }
 
-# Compiles the plain C queue of csq.h and csq_ledger.h alone into an archive: csq_plain_queue TOP ARCHIVE COMPILER FLAG..
+# Compiles the plain C code of csq.h, csq_ledger.h and csq_replay.h alone into an archive: csq_plain_queue TOP ARCHIVE COMPILER FLAG..
 csq_plain_queue() { csq_compile "$1" "$2" "${csq_queue_files[@]}" -- "${@:3}"; }
 
 # The same with csq_requests.h's code: csq_plain_library TOP ARCHIVE COMPILER FLAG..

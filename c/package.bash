@@ -126,7 +126,7 @@ csq_add_iocsq() {
 # Makes the versions of symbols, WORK/map, and adds the man pages, and csqsim with its completions if there is one:
 # csq_add_made TOP WORK PROGRAM
 csq_add_made() {
-  local top=$1 work=$2 tree=$2/tree program=$3 page pages=(csq.3 csq_ledger.3 csq_requests.3)
+  local top=$1 work=$2 tree=$2/tree program=$3 page pages=(csq.3 csq_ledger.3 csq_replay.3 csq_requests.3)
   if [[ $program ]]; then
     install -D -m 755 "$program" "$tree/bin/csqsim"
     pages+=(csqsim.1)
@@ -154,7 +154,7 @@ csq_package() {
   csq_link "$top" "$work" "$version" "csq $version proved=$proved${kit:+ kit=$kit}" "$@"
   local values=("VERSION=$version" "MAJOR=${version%%.*}" "LIBDIR=$LIBDIR" "PREFIX=${prefix// /\\ }"
     "TO_PREFIX=$(realpath -ms --relative-to="/$LIBDIR/cmake/csq" /)" "PROVED=$proved" "KIT=$kit")
-  install -D -m 644 -t "$tree/include/keuvatsi" "$top"/include/csq{,_ledger,_requests}.h
+  install -D -m 644 -t "$tree/include/keuvatsi" "$top"/include/csq{,_ledger,_replay,_requests}.h
   csq_add_iocsq "$top" "$tree"
   mkdir -p "$lib/pkgconfig" "$lib/cmake/csq"
   csq_fill "$top/c/package/csq.pc.in" "${values[@]}" >"$lib/pkgconfig/csq.pc"

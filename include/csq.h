@@ -176,7 +176,13 @@ enum csq_code {
     /* The queue isn't closed. */
     CSQ_NOT_CLOSED = 25,
     /* The pass is another queue's. */
-    CSQ_OTHER_QUEUE = 26
+    CSQ_OTHER_QUEUE = 26,
+    /* Of csq_replay.h, since 1.1: there is no such pass. */
+    CSQ_UNKNOWN_PASS = 27,
+    /* The step is made under the lock, and another pass has it. */
+    CSQ_LOCK_HELD = 28,
+    /* The pass is inside of a call that has another next step, or no call begins with the step. */
+    CSQ_NOT_NEXT = 29
 };
 
 /* Since: 1.1. What csq_judge_peek says of an answer, the first that holds: */
@@ -653,7 +659,8 @@ CSQ_INLINE const char *csq_name(uint32_t code) {
         "CSQ_NOT_HELD",    "CSQ_NOT_OWED",     "CSQ_NOT_REMOVED",   "CSQ_NOT_FINAL",
         "CSQ_HOLDING",     "CSQ_PASSES_OUT",   "CSQ_NO_PASS",       "CSQ_BAD_SIZE",
         "CSQ_NO_MEMORY",   "CSQ_EMPTY_HANDLE", "CSQ_NOT_EMPTY",     "CSQ_NOT_LISTED",
-        "CSQ_CLOSED",      "CSQ_NOT_CLOSED",   "CSQ_OTHER_QUEUE"
+        "CSQ_CLOSED",      "CSQ_NOT_CLOSED",   "CSQ_OTHER_QUEUE",   "CSQ_UNKNOWN_PASS",
+        "CSQ_LOCK_HELD",   "CSQ_NOT_NEXT"
     };
     return code < sizeof names / sizeof *names ? names[code] : "?";
 }

@@ -52,6 +52,9 @@ static const char *name_of(uint32_t code) {
         NAME(CSQ_CLOSED);
         NAME(CSQ_NOT_CLOSED);
         NAME(CSQ_OTHER_QUEUE);
+        NAME(CSQ_UNKNOWN_PASS);
+        NAME(CSQ_LOCK_HELD);
+        NAME(CSQ_NOT_NEXT);
     default:
         return "";
     }
@@ -144,7 +147,7 @@ int main(void) {
     while (*name_of(named)) {
         named++;
     }
-    int fits = named == CSQ_OTHER_QUEUE + 1 && sizeof(struct csq_irp) == 8 &&
+    int fits = named == CSQ_NOT_NEXT + 1 && sizeof(struct csq_irp) == 8 &&
                sizeof(struct csq_size) == 24 && sizeof(struct csq_left) == 16 &&
                sizeof queue == 16 && sizeof pass == 16;
     report("the_header_names_what_is_there", fits && way() == 0);

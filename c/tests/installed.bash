@@ -4,6 +4,9 @@
 # What c/tests/header.cpp writes where all is well.
 header_lines=$(printf 'passed %s\n' the_header_names_what_is_there each_code_has_its_name an_insert_has_its_status)
 
+# By these each header is included.
+last_headers=(csq_replay.h csq_requests.h)
+
 # How many calls csq.h had at 1.0, and how many of these were symbols then. Neither changes any more: a call that is added
 # says "Since: " and the version that has it first.
 calls_of_first=35 symbols_of_first=27
@@ -16,7 +19,8 @@ only_csq() {
   nm -g --defined-only "$lib/libcsq.a" | awk 'NF == 3 { print $3 }' | sort >"$work/static"
   readelf -W --dyn-syms "$lib/libcsq.so" | awk '$5 == "GLOBAL" && $7 ~ /^[0-9]+$/ { print $8 }' | sort >"$work/shared"
   newest=$(sed 's/.*CSQ_//' "$work/shared" | sort -V | tail -1)
-  diff <(names_of_calls csq_requests.h) <(cut -d' ' -f1 "$work/calls" | sort) && diff <(names_of_calls csq_requests.h) "$work/static" &&
+  names_of_calls "${last_headers[@]}" >"$work/declared"
+  diff "$work/declared" <(cut -d' ' -f1 "$work/calls" | sort) && diff "$work/declared" "$work/static" &&
     diff "$work/static" <(sed 's/@@CSQ_.*//' "$work/shared") && count_is $calls_of_first ' 1\.0$' "$work/calls" &&
     count_is $symbols_of_first '@@CSQ_1$' "$work/shared" && [[ $newest == "${version%.*}" || $newest == "${version%%.*}" ]]
 }
@@ -32,7 +36,7 @@ count_is() {
 # the archive has too.
 by_name() {
   local calls
-  mapfile -t calls < <(names_of_calls csq_requests.h)
+  mapfile -t calls < <(names_of_calls "${last_headers[@]}")
   "$3" -std=c11 "${warnings[@]}" -I"$top/include" "$top/c/tests/by_name.c" -ldl -o "$work/by_name" &&
     "$work/by_name" "$1/lib/libcsq.so" "$2" "${calls[@]}" && grep -qaF "$2" "$1/lib/libcsq.a"
 }
@@ -46,7 +50,7 @@ says_proved() {
 # well_formed FOLDER: the man pages below it have no error, by mandoc or man, and those of the headers have each call.
 well_formed() {
   local page call
-  set -- "$1"/man{3/csq,3/csq_ledger,3/csq_requests,1/csqsim}.*
+  set -- "$1"/man{3/csq,3/csq_ledger,3/csq_replay,3/csq_requests,1/csqsim}.*
   for page; do
     if command -v mandoc >"$work/page"; then
       mandoc -Tlint -W error "$page" >"$work/said"
@@ -55,7 +59,7 @@ well_formed() {
     fi || return 1
     if grep . "$work/said"; then return 1; fi
   done
-  for call in $(names_of_calls csq_requests.h); do
+  for call in $(names_of_calls "${last_headers[@]}"); do
     grep -q "^.fB.*\b$call(" "$@" || { echo "no page has $call"; return 1; }
   done
 }
@@ -74,7 +78,7 @@ staged() {
   rm -rf "$stage"
   DESTDIR=$stage "$top/c/install" "$prefix" "$@" && [[ ! -e $prefix ]] &&
     ! grep -rF "$stage" "$stage" && grep -xF "prefix=${prefix// /\\ }" "$stage$prefix/lib/pkgconfig/csq.pc" || return 1
-  for header in include/keuvatsi/csq{,_ledger,_requests}.h; do
+  for header in include/keuvatsi/csq{,_ledger,_replay,_requests}.h; do
     cmp "$top/include/${header##*/}" "$stage$prefix/$header" || return 1
   done
 }

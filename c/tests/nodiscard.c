@@ -1,6 +1,7 @@
 /* Ignores the result of each call that is CSQ_NODISCARD: each must be a warning, and each such call
  * stands here. */
 #define _POSIX_C_SOURCE 200809L
+#include <csq_replay.h>
 #include <csq_requests.h>
 
 void ignore(struct csq_queue *queue, struct csq_pass *pass, const struct csq_size *size,
@@ -56,6 +57,16 @@ void ignore_ledger(struct csq_ledger *ledger, const struct csq_size *size, struc
     csq_ledger_drain_next(ledger, CSQ_ANY, CSQ_WHY_DRAIN, name, out);
     csq_ledger_expire(ledger, 0, name, out);
     csq_ledger_end(ledger, *name, ended);
+}
+
+void ignore_replay(struct csq_replay *replay, const struct csq_size *size,
+                   const struct csq_step *step, struct csq_refusal *refusal, uint32_t *found);
+
+void ignore_replay(struct csq_replay *replay, const struct csq_size *size,
+                   const struct csq_step *step, struct csq_refusal *refusal, uint32_t *found) {
+    csq_replay_new(replay, size);
+    csq_replay_step(replay, step, found, refusal);
+    csq_replay_rest(replay);
 }
 
 void ignore_requests(struct csq_requests *requests, struct csq_request *request,

@@ -1,7 +1,10 @@
-/* Memory of csq_ledger.h and csq_requests.h: each call for it refused, and that no call takes any
- * but those that make something. The linker leads all calls for memory here (--wrap). */
+/* Memory of csq_ledger.h, csq_replay.h and csq_requests.h: each call for it refused, and that no
+ * call takes any but those that make something. The linker leads all calls for memory here
+ * (--wrap). */
 #include "requests_check.h"
 #include "wrapped.h"
+
+#include "csq_replay.h"
 
 #include <errno.h>
 
@@ -73,6 +76,19 @@ static uint32_t make_ledger(uint32_t list, int is_limited) {
     return code;
 }
 
+/* Neither the list nor the limits are looked at. */
+static uint32_t make_replay(uint32_t list, int is_limited) {
+    struct csq_replay replay = { NULL };
+    const struct csq_size size = size_of(4, FILES, list);
+    uint32_t code = csq_replay_new(&replay, &size);
+    (void)is_limited;
+    CHECK((code == CSQ_OK) == (replay.at != NULL));
+    if (code == CSQ_OK) {
+        IS(csq_replay_free(&replay), CSQ_OK);
+    }
+    return code;
+}
+
 static uint32_t make_requests(uint32_t list, int is_limited) {
     struct csq_requests *requests = NULL;
     const struct csq_size size = size_of(4, FILES, list);
@@ -84,18 +100,18 @@ static uint32_t make_requests(uint32_t list, int is_limited) {
 
 /* It keeps nothing, whichever call for memory is refused, until none is. */
 static void what_finds_no_memory_keeps_none(uint32_t list) {
-    static uint32_t (*const makes[])(uint32_t, int) = { make_ledger, make_requests };
-    for (int at = 0; at < 8; at++) {
+    static uint32_t (*const makes[])(uint32_t, int) = { make_ledger, make_requests, make_replay };
+    for (int at = 0; at < 12; at++) {
         const unsigned long before = blocks;
         unsigned long which = 0;
         uint32_t code = CSQ_NO_MEMORY;
         while (code != CSQ_OK && which < 1000) {
-            refuse(++which, at / 4);
-            code = makes[at % 2](list, at / 2 % 2);
+            refuse(++which, at / 6);
+            code = makes[at % 3](list, at / 3 % 2);
             CHECK(code == CSQ_OK ? asked < which : code == CSQ_NO_MEMORY);
             IS(blocks, before);
         }
-        CHECK(which > 4);
+        CHECK(which > 3);
     }
     refuse(0, 0);
 }
@@ -130,6 +146,24 @@ static void ledgers_way(struct csq_ledger *ledger) {
     IS(csq_ledger_close(ledger), CSQ_OK);
 }
 
+static void replays_way(struct csq_replay *replay) {
+    static const uint32_t kinds[] = { CSQ_STEP_ARM, CSQ_STEP_TEST, CSQ_STEP_DISARM, CSQ_STEP_DONE,
+                                      CSQ_STEP_RENEW };
+    struct csq_step step = { 1, 1, 0, { 0, 0 } };
+    struct csq_refusal refusal;
+    struct csq_placed placed;
+    uint32_t found;
+    for (; step.irp.life < 8; step.irp.life++) {
+        for (size_t at = 0; at < sizeof kinds / sizeof *kinds; at++) {
+            step.kind = kinds[at];
+            IS(csq_replay_step(replay, &step, &found, &refusal), CSQ_OK);
+        }
+        IS(csq_replay_step(replay, &step, &found, &refusal), CSQ_STALE);
+        IS(csq_replay_irp(replay, 0, &placed), CSQ_OK);
+        IS(csq_replay_rest(replay), CSQ_OK);
+    }
+}
+
 static void requests_way(struct csq_requests *requests) {
     struct csq_request taken;
     struct csq_irp name;
@@ -156,13 +190,17 @@ static void no_other_call_takes_memory(uint32_t list) {
     const unsigned long before = blocks;
     const struct csq_size size = size_of(4, FILES, list);
     struct csq_ledger ledger = { NULL };
+    struct csq_replay replay = { NULL };
     struct csq_requests *requests = made(4, list, NULL);
     IS(csq_ledger_new(&ledger, &size), CSQ_OK);
+    IS(csq_replay_new(&replay, &size), CSQ_OK);
     refuse(1, 1);
     ledgers_way(&ledger);
+    replays_way(&replay);
     requests_way(requests);
     IS(asked, 0);
     IS(csq_ledger_free(&ledger), CSQ_OK);
+    IS(csq_replay_free(&replay), CSQ_OK);
     IS(csq_requests_free(&requests), CSQ_OK);
     IS(asked, 0);
     IS(blocks, before);

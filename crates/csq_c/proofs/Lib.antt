@@ -2,4 +2,5 @@ pub mod Imports
 pub mod Holding
 pub mod OnTheHeap
 pub mod Called
-pub mod LedgerCalled
+pub mod Handling
+pub mod Replaying

@@ -18,7 +18,7 @@ use Rattle.irp_core.specs.declared.refusals.SizeRefused.{SizeRefused}
 use Rattle.irp_core.specs.declared.refusals.SizeRefused.TheVariants as new
 use Rattle.csq_checked.specs.declared.size.PassRefused.{PassRefused}
 use Rattle.csq_checked.specs.declared.size.PassRefused.TheVariants as pass
-use Rattle.csq_c.specs.declared.codes.Code.{Code, TheVariants.{Done, UnknownIrp, UnknownFile, NotHome, FileClosed, Full, FileFull, Cancelled, Nothing, Stale, NotCompleted, LivesSpent, NotHeld, NotOwed, NotRemoved, NotFinal, Holding, PassesOut, NoPass, BadSize, NoMemory, EmptyHandle, NotEmpty, NotListed, Closed, NotClosed, OtherQueue}}
+use Rattle.csq_c.specs.declared.codes.Code.{Code, TheVariants.{Done, UnknownIrp, UnknownFile, NotHome, FileClosed, Full, FileFull, Cancelled, Nothing, Stale, NotCompleted, LivesSpent, NotHeld, NotOwed, NotRemoved, NotFinal, Holding, PassesOut, NoPass, BadSize, NoMemory, EmptyHandle, NotEmpty, NotListed, Closed, NotClosed, OtherQueue, UnknownPass, LockHeld, NotNext}}
 
 -- the number of a code
 abbrev pub number_of : Code → ℕ
@@ -49,6 +49,9 @@ number_of NotListed = 23
 number_of Closed = 24
 number_of NotClosed = 25
 number_of OtherQueue = 26
+number_of UnknownPass = 27
+number_of LockHeld = 28
+number_of NotNext = 29
 
 -- why no IRP was inserted
 abbrev pub refusal_code : InsertStatus → Code

@@ -11,29 +11,24 @@ use Rattle.csq_ledger.specs.Calls.{counts_for}
 use Rattle.csq_ledger.specs.Fresh.{IsFreshLedger, with_one_pass}
 use Rattle.csq_ledger.specs.Ledgers.{LedgerState, knows, named_stage}
 use Rattle.csq_ledger.specs.declared.looks.Counts.{Counts}
-use Rattle.csq_c.specs.Codes.{number_of}
+use Rattle.csq_c.specs.Handled.{LooksAtHandle, OnHandle, OnNumber}
 use Rattle.csq_c.specs.LedgerShapes.{look_of, why_numbered}
 use Rattle.csq_c.specs.Sizes.{IsGoodSize, given_size}
-use Rattle.csq_c.specs.declared.codes.Code.{Code, TheVariants.{Done, UnknownIrp, Holding, BadSize, EmptyHandle}}
+use Rattle.csq_c.specs.declared.codes.Code.{Code, TheVariants.{Done, UnknownIrp, Holding, EmptyHandle}}
 use Rattle.csq_c.specs.declared.handles.CsqLedger.{CsqLedger}
 use Rattle.csq_c.specs.declared.ledger.shapes.CsqLook.{CsqLook}
 use Rattle.csq_c.specs.declared.shapes.CsqSize.{CsqSize}
 
--- a call through the handle of a ledger is as defined for what it holds. If it is empty the code says so, and nothing is changed
-pub record OnLedger (ledger ledger' : CsqLedger) (result : ℕ) (kept : Type 0) (stored : LedgerState → LedgerState → Code → Type 0) : Type 0 where
-  pub empty : ledger.boxed.body ≡ None → (result ≡ number_of EmptyHandle) × (ledger'.boxed.body ≡ None) × kept
-  pub called : (s : LedgerState) → ledger.boxed.body ≡ Some s → (s' : LedgerState) × (code : Code) × (ledger'.boxed.body ≡ Some s') × (result ≡ number_of code) × stored s s' code
+-- a call through the handle of a ledger, and a look
+abbrev pub OnLedger : CsqLedger → CsqLedger → ℕ → Type 0 → (LedgerState → LedgerState → Code → Type 0) → Type 0
+OnLedger ledger ledger' = OnHandle ledger.boxed.body ledger'.boxed.body
 
--- so is a look, which changes nothing
-pub record LooksAtLedger (ledger ledger' : CsqLedger) (result : ℕ) (kept : Type 0) (stored : LedgerState → Code → Type 0) : Type 0 where
-  pub same : ledger'.boxed.body ≡ ledger.boxed.body
-  pub empty : ledger.boxed.body ≡ None → (result ≡ number_of EmptyHandle) × kept
-  pub looked : (s : LedgerState) → ledger.boxed.body ≡ Some s → (code : Code) × (result ≡ number_of code) × stored s code
+abbrev pub LooksAtLedger : CsqLedger → CsqLedger → ℕ → Type 0 → (LedgerState → Code → Type 0) → Type 0
+LooksAtLedger ledger ledger' = LooksAtHandle ledger.boxed.body ledger'.boxed.body
 
--- a call for a reason is as defined for it. If the number stands for none, the code says so, and nothing is changed
-pub record OnWhy (number : ℕ) (code : Code) (kept : Type 0) (called : Why → Type 0) : Type 0 where
-  pub unknown : why_numbered number ≡ None → (code ≡ BadSize) × kept
-  pub known : (why : Why) → why_numbered number ≡ Some why → called why
+-- a call for a reason
+abbrev pub OnWhy : ℕ → Code → Type 0 → (Why → Type 0) → Type 0
+OnWhy number = OnNumber (why_numbered number)
 
 -- each number is in its range, but for the number of passes, which isn't looked at
 abbrev pub IsGoodLedgerSize : CsqSize → Type 0

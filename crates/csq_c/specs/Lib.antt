@@ -13,4 +13,8 @@ pub mod Judges
 pub mod Uses
 pub mod LedgerShapes
 pub mod LedgerCodes
+pub mod Handled
 pub mod LedgerCalls
+pub mod Replays
+pub mod ReplayShapes
+pub mod ReplayCalls

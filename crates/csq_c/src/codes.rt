@@ -39,6 +39,9 @@ pub(crate) enum Code {
     Closed = 24,
     NotClosed = 25,
     OtherQueue = 26,
+    UnknownPass = 27,
+    LockHeld = 28,
+    NotNext = 29,
 }
 
 impl Code {

@@ -3,12 +3,14 @@ ghost use Rattle.std.specs.Prelude.{◌≡◌, Option};
 ghost use Rattle.csq_checked.specs.Passes.{CheckedPassState};
 ghost use Rattle.csq_ledger.specs.Ledgers.{LedgerState};
 ghost use Rattle.csq_c.specs.Bodies.{QueueBodyState};
+ghost use Rattle.csq_c.specs.Replays.{ReplayState};
 
 mod lent;
 
 use crate::body::QueueBody;
 pub(crate) use crate::handles::lent::lend;
 use crate::hold::{Handle, Hold};
+use crate::replay::ReplayBody;
 use csq_checked::CheckedPass;
 use csq_ledger::Ledger;
 use std::marker::Model;
@@ -121,6 +123,42 @@ impl Handle for LedgerBox {
     }
 }
 
+/// The address of a replay, or null.
+#[repr(C)]
+pub struct ReplayBox {
+    at: *mut u8,
+    pub ghost body: { Option ReplayState },
+}
+
+impl Model for ReplayBox {
+    ghost use Rattle.csq_c.specs.Holds.{held};
+    ghost use Rattle.csq_c.specs.contracts.replay.body.ReplayBody.{the_row};
+
+    ghost also_owns = { λ r. held the_row r.at r.body };
+}
+
+impl Handle for ReplayBox {
+    type Body = ReplayBody;
+
+    ghost held_in = { λ r. r.body };
+
+    fn of(hold: Hold<ReplayBody>) -> ReplayBox
+        ensures { result.body ≡ hold.body }
+    {
+        let Hold { at } = hold;
+        ReplayBox { at: at as *mut u8 }
+    }
+
+    fn into_hold(self) -> Hold<ReplayBody>
+        ensures { result.body ≡ self.body }
+    {
+        let ReplayBox { at } = self;
+        Hold {
+            at: at as *mut ReplayBody,
+        }
+    }
+}
+
 /// The handle of a queue, or an empty one. C sees the address and the number.
 #[repr(C)]
 pub struct CsqQueue {
@@ -141,4 +179,10 @@ pub struct CsqPass {
 #[repr(C)]
 pub struct CsqLedger {
     pub boxed: LedgerBox,
+}
+
+/// The handle of a replay, or an empty one. C sees the address.
+#[repr(C)]
+pub struct CsqReplay {
+    pub boxed: ReplayBox,
 }

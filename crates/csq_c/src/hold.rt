@@ -1,6 +1,8 @@
 //! A box that a program in C holds by its address.
-ghost use Rattle.std.specs.Prelude.{◌≡◌, Option, Some, None, MatchOption};
+ghost use Rattle.std.specs.Prelude.{◌≡◌, ◌↔◌, ◌⊎◌, Option, Some, None, Ok, Err, IfErr, IfOk, MatchOption};
 
+use crate::codes::{Code, of_new};
+use irp_core::SizeRefused;
 use std::alloc::Global;
 use std::marker::Model;
 use std::mem::replace;
@@ -92,3 +94,37 @@ pub(crate) fn put<H: Handle>(handle: &mut H, body: Box<H::Body>)
     let empty = replace(handle, H::of(Hold::of(body)));
     empty.into_hold().end();
 }
+
+/// The box of what was made, or why there is none.
+pub(crate) fn boxed<T: Drop>(alloc: Global, made: Result<T, SizeRefused>) -> Result<Box<T>, Code>
+    ensures made { IfOk result (λ body. made ≡ Ok body.value) }
+    ensures bad_size { (result ≡ Err Code.BadSize) ↔ (made ≡ Err SizeRefused.BadSize) }
+    ensures cause { IfErr result (λ code. (code ≡ Code.BadSize) ⊎ (code ≡ Code.NoMemory)) }
+{
+    let body = match made {
+        Ok(body) => body,
+        Err(refused) => return Err(of_new(refused)),
+    };
+    match Box::new(alloc, body) {
+        Ok(body) => Ok(body),
+        Err(_) => Err(Code::NoMemory),
+    }
+}
+
+/// Puts what is made into an empty handle. Own rule.
+macro_rules! fill {
+    ($handle:ident, $alloc:ident, $made:expr) => {{
+        if $handle.boxed.is_filled() {
+            return Code::NotEmpty.number();
+        }
+        match boxed($alloc, $made) {
+            Err(code) => code.number(),
+            Ok(body) => {
+                put(&mut $handle.boxed, body);
+                Code::Done.number()
+            }
+        }
+    }};
+}
+
+pub(crate) use fill;

@@ -13,6 +13,7 @@ mod locked;
 mod looks;
 mod passes;
 mod queues;
+mod replay;
 mod shapes;
 mod unlocked;
 mod uses;

@@ -1,10 +1,11 @@
 //! What stands behind a handle, lent to one call, which doesn't write the handle.
 ghost use Rattle.std.specs.Prelude.{◌≡◌, Some, None, MatchOption, ◌↔◌, false};
 ghost use Rattle.std.specs.Borrow.{sem};
-ghost use Rattle.csq_c.specs.Lends.{LendsQueue, LendsPass, LendsLedger};
+ghost use Rattle.csq_c.specs.Lends.{LendsQueue, LendsPass, LendsLedger, LendsReplay};
 
 use crate::body::QueueBody;
-use crate::handles::{LedgerBox, PassBox, QueueBox};
+use crate::handles::{LedgerBox, PassBox, QueueBox, ReplayBox};
+use crate::replay::ReplayBody;
 use csq_checked::CheckedPass;
 use csq_ledger::Ledger;
 
@@ -98,6 +99,33 @@ impl LedgerBox {
     }
 
     /// Whether there is a ledger.
+    pub(crate) fn is_filled(&mut self) -> bool
+        ensures answer { result ≡ false ↔ self.old.body ≡ None }
+        ensures same { self.new.body ≡ self.old.body }
+    {
+        match self.lent() {
+            None => false,
+            Some(_) => true,
+        }
+    }
+}
+
+impl ReplayBox {
+    /// The replay, or None if the handle is empty. Own rule.
+    pub(crate) fn lent(&mut self) -> Option<&mut ReplayBody>
+        ensures* writes_back { sem 𝓛 (LendsReplay self.entry result) }
+        ensures value { MatchOption result (self.old.body ≡ None)
+            (λ body. self.old.body ≡ Some body.now) }
+    {
+        let at = self.at as *mut ReplayBody;
+        if at.is_null() {
+            return None;
+        }
+        // SAFETY: as of a queue's handle.
+        Some(unsafe { &mut *at })
+    }
+
+    /// Whether there is a replay.
     pub(crate) fn is_filled(&mut self) -> bool
         ensures answer { result ≡ false ↔ self.old.body ≡ None }
         ensures same { self.new.body ≡ self.old.body }

@@ -1,5 +1,5 @@
 //! How a ledger is made, closed and freed.
-ghost use Rattle.std.specs.Prelude.{◌≡◌, ◌⊎◌, ◌<◌, ◌↔◌, Ok, Err, IfErr, IfOk, IfSome, IsTrue, None, Result, replicate, true};
+ghost use Rattle.std.specs.Prelude.{◌≡◌, ◌⊎◌, ◌<◌, ◌↔◌, Err, IfOk, IfSome, IsTrue, None, Result, replicate, true};
 ghost use Rattle.csq_list.specs.Listing.{are_file_limits};
 ghost use Rattle.csq_list.specs.declared.refusals.UnknownFile.{UnknownFile};
 ghost use Rattle.csq_ledger.specs.Calls.{ClosesFile};
@@ -7,9 +7,9 @@ ghost use Rattle.csq_c.specs.Codes.{close_file_code, number_of};
 ghost use Rattle.csq_c.specs.LedgerCalls.{IsGoodLedgerSize, IsNewLedger, OnLedger, free_ledger_code};
 ghost use Rattle.csq_c.specs.Shapes.{file_numbered};
 
-use crate::codes::{Code, of_close_file, of_new};
+use crate::codes::{Code, of_close_file};
 use crate::handles::{CsqLedger, lend};
-use crate::hold::{put, take};
+use crate::hold::{boxed, fill, put, take};
 use crate::shapes::CsqSize;
 use csq_ledger::Ledger;
 use irp_core::{FileId, SizeRefused};
@@ -38,38 +38,6 @@ fn made_with(alloc: Global, size: &CsqSize, file_limits: &[u32]) -> Result<Ledge
         return Err(SizeRefused::BadSize);
     };
     Ledger::with_file_limits(alloc, size, file_limits)
-}
-
-/// The box of a ledger that was made, or why there is none.
-fn boxed(alloc: Global, made: Result<Ledger, SizeRefused>) -> Result<Box<Ledger>, Code>
-    ensures made { IfOk result (λ body. made ≡ Ok body.value) }
-    ensures bad_size { (result ≡ Err Code.BadSize) ↔ (made ≡ Err SizeRefused.BadSize) }
-    ensures cause { IfErr result (λ code. (code ≡ Code.BadSize) ⊎ (code ≡ Code.NoMemory)) }
-{
-    let ledger = match made {
-        Ok(ledger) => ledger,
-        Err(refused) => return Err(of_new(refused)),
-    };
-    match Box::new(alloc, ledger) {
-        Ok(body) => Ok(body),
-        Err(_) => Err(Code::NoMemory),
-    }
-}
-
-/// Puts what is made of a ledger into an empty handle. Own rule.
-macro_rules! fill {
-    ($ledger:ident, $alloc:ident, $made:expr) => {{
-        if $ledger.boxed.is_filled() {
-            return Code::NotEmpty.number();
-        }
-        match boxed($alloc, $made) {
-            Err(code) => code.number(),
-            Ok(body) => {
-                put(&mut $ledger.boxed, body);
-                Code::Done.number()
-            }
-        }
-    }};
 }
 
 /// Makes a ledger over a new queue of this size, whose number of passes isn't looked at, and whose

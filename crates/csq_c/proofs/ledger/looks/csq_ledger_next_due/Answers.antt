@@ -1,6 +1,6 @@
 use Rattle.std.proofs.Common.{None, Some, refl}
 use Rattle.csq_c.specs.declared.codes.Code.TheVariants.{Done, Nothing}
-use Rattle.csq_c.proofs.LedgerCalled.{looks_at}
+use Rattle.csq_c.proofs.Handling.{looks_at}
 use Rattle.csq_c.proofs.ledger.looks.csq_ledger_next_due.Goals as goal
 
 pub returns-in_default-next_due : goal.returns-in_default-next_due
