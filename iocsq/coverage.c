@@ -2,6 +2,7 @@
  * in which nothing was inserted, removed or cancelled says nothing of a driver's queue, so what
  * never happened is named. */
 #include "queues.h"
+#include "verdicts.h"
 
 enum { KINDS = 32 };
 
@@ -179,6 +180,9 @@ static void print_schedules(void) {
     struct iocsq_schedules_noted noted = iocsq_schedules_noted();
     if (noted.irps + noted.left_out > 0) {
         print_row("by hand: IRPs whose steps are a schedule", "", noted.irps);
+        print_row(iocsq_is_judge_proved() ? "by hand: schedules, each replayed by the proved machine"
+                                          : "by hand: schedules, each replayed (not proved)",
+                  "", noted.different);
         print_row("by hand: IRPs whose steps are none", "", noted.left_out);
     }
 }

@@ -45,7 +45,7 @@ static void test(struct iocsq_irp *i) {
 
 void iocsq_hand_look(struct iocsq_irp *i) {
     struct iocsq_hand *h = &i->hand;
-    if (!is_kept(i) && i->place != IOCSQ_REMOVED) {
+    if (!iocsq_in_turns() || (!is_kept(i) && i->place != IOCSQ_REMOVED)) {
         return;
     }
     iocsq_point(); /* a cancel may come just before */
@@ -207,6 +207,9 @@ void iocsq_hand_flag(struct iocsq_irp *i) {
 void iocsq_hand_mark(struct iocsq_irp *i, uint32_t pass) {
     struct iocsq_hand *h = &i->hand;
     uint16_t me = (uint16_t)(1u << pass);
+    if (!iocsq_in_turns()) {
+        return;
+    }
     if (!(h->flagged & me)) {
         iocsq_step(i, pass, "flag");
     }

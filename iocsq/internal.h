@@ -324,12 +324,14 @@ const char *iocsq_step_irp(const struct iocsq_step *step); /* the IRP that its l
 void iocsq_show_schedule(const struct iocsq_irp *i);
 
 /* ---- schedules.c: of IRPs with cancel routines of the driver's own ---- */
-/* As such an IRP is completed, or reported. The state's lock is held, or the report's. */
+/* As such an IRP is completed: ends the program with a report if its steps break the protocol. The
+ * state's lock is held. */
+void iocsq_judge_schedule(const struct iocsq_irp *i);
+/* As such an IRP is reported. The report's lock is held. */
 void iocsq_note_schedule(const struct iocsq_irp *i);
-/* The different ones, in the order in which they came; null: there is none with this number. */
-const struct iocsq_schedule *iocsq_schedule_number(uint32_t number);
 struct iocsq_schedules_noted {
     uint64_t irps, left_out; /* with a schedule, without one */
+    uint64_t different;      /* schedules, each of which was replayed */
 };
 struct iocsq_schedules_noted iocsq_schedules_noted(void);
 

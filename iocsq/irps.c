@@ -376,7 +376,7 @@ static void finish(struct iocsq_irp *i) {
         iocsq_check_pending(i);
     }
     iocsq_take_buffers(i);
-    iocsq_note_schedule(i);
+    iocsq_judge_schedule(i);
     take_from_driver(i);
     iocsq_state_changed();
     iocsq_unlock_state();

@@ -1,8 +1,9 @@
 /* The different schedules of a run's IRPs that had a cancel routine of the driver's own: what the
  * queue beside an IO_CSQ decides at once, is decided of these by a replay of their steps. Each new
- * one is noted in one place (note): there it is written to the file that IOCSQ_SCHEDULES names,
- * which iocsq/judge has csqsim replay. */
-#include "internal.h"
+ * one is replayed, and ends the run with a report if one of its steps is refused; or, if
+ * IOCSQ_SCHEDULES names a file, it is written there with the verdict, which iocsq/judge compares
+ * with csqsim's. */
+#include "verdicts.h"
 
 #include <fcntl.h>
 #include <stdlib.h>
@@ -14,9 +15,7 @@ enum { SCHEDULES = 1024, LINE = 32 * IOCSQ_STEPS };
  * this is of all runs. */
 static struct noted {
     struct iocsq_schedules_noted counts;
-    uint32_t count;
     uint64_t hashes[SCHEDULES];
-    struct iocsq_schedule schedules[SCHEDULES];
 } *noted;
 
 __attribute__((constructor)) static void allocate_schedules(void) {
@@ -30,13 +29,13 @@ struct iocsq_schedules_noted iocsq_schedules_noted(void) {
     return noted->counts;
 }
 
-const struct iocsq_schedule *iocsq_schedule_number(uint32_t number) {
-    return number < noted->count ? &noted->schedules[number] : NULL;
+/* ---- The file ---- */
+static const char *file_name(void) {
+    return getenv("IOCSQ_SCHEDULES");
 }
 
-/* ---- The file ---- */
 static void write_line(const char *line, size_t length) {
-    const char *path = getenv("IOCSQ_SCHEDULES");
+    const char *path = file_name();
     if (!path) {
         return;
     }
@@ -74,7 +73,7 @@ static uint64_t hash_of(const char *line, size_t length) {
 }
 
 static bool is_noted(uint64_t hash) {
-    for (uint32_t at = 0; at < noted->count; at++) {
+    for (uint64_t at = 0; at < noted->counts.different; at++) {
         if (noted->hashes[at] == hash) {
             return true;
         }
@@ -83,13 +82,15 @@ static bool is_noted(uint64_t hash) {
 }
 
 /* A schedule that none before equals. */
-static void note(const struct iocsq_schedule *s, uint64_t hash, const char *line, size_t length) {
-    if (noted->count == SCHEDULES) {
+static struct iocsq_verdict judge(const struct iocsq_schedule *s, uint64_t hash, const char *steps) {
+    struct iocsq_verdict v = iocsq_judge_steps(s);
+    char line[LINE + 32];
+    if (noted->counts.different == SCHEDULES) {
         iocsq_fail("more than %u different schedules", (unsigned)SCHEDULES);
     }
-    noted->hashes[noted->count] = hash;
-    noted->schedules[noted->count++] = *s;
-    write_line(line, length);
+    noted->hashes[noted->counts.different++] = hash;
+    write_line(line, (size_t)snprintf(line, sizeof line, "%u: %s", v.refused, steps));
+    return v;
 }
 
 static bool is_cancelling(const struct iocsq_schedule *s, uint32_t pass) {
@@ -124,22 +125,37 @@ static bool can_be_judged(const struct iocsq_irp *i, struct iocsq_schedule *s, c
     return i->place != IOCSQ_DONE || end_cancels(s);
 }
 
-void iocsq_note_schedule(const struct iocsq_irp *i) {
-    struct iocsq_schedule s;
+/* Whether the IRP's steps are a new schedule; then what came of its replay. */
+static bool note(const struct iocsq_irp *i, struct iocsq_schedule *s, struct iocsq_verdict *v) {
     const char *why;
     char line[LINE];
     if (!i->hand.armed || !iocsq_in_turns()) {
-        return;
+        return false;
     }
-    if (!can_be_judged(i, &s, &why)) {
+    if (!can_be_judged(i, s, &why)) {
         noted->counts.left_out++;
         write_left_out(why);
-        return;
+        return false;
     }
     noted->counts.irps++;
-    size_t length = write_steps(line, &s);
-    uint64_t hash = hash_of(line, length);
-    if (!is_noted(hash)) {
-        note(&s, hash, line, length);
+    uint64_t hash = hash_of(line, write_steps(line, s));
+    if (is_noted(hash)) {
+        return false;
     }
+    *v = judge(s, hash, line);
+    return true;
+}
+
+void iocsq_judge_schedule(const struct iocsq_irp *i) {
+    struct iocsq_schedule s;
+    struct iocsq_verdict v;
+    if (note(i, &s, &v) && v.refused > 0 && !file_name()) {
+        iocsq_report_refused(i, &s, &v);
+    }
+}
+
+void iocsq_note_schedule(const struct iocsq_irp *i) {
+    struct iocsq_schedule s;
+    struct iocsq_verdict v;
+    note(i, &s, &v);
 }

@@ -86,32 +86,34 @@ run_places() {
       "^ +[0-9]+ t[0-9]+ +CsqRemoveIrp\\(irp [0-9]+\\)$" "$storm" 6 3000 1 turns
 }
 
-# writes_schedules PATTERN STORM: a seed of the storm writes each different schedule of requests that are in no IO_CSQ, and
-# one of them has this; with `none`, none has an end that follows the routine at once.
+# writes_schedules STORM: a seed of the storm writes each different schedule of requests that are in no IO_CSQ.
 writes_schedules() {
   rm -f "$work/schedules"
-  IOCSQ_SCHEDULES=$work/schedules "$2" 6 1000 1 turns || return
-  sort "$work/schedules" | uniq -c
-  if [[ $1 == none ]]; then
-    ! grep -qE 'arm 0;p[0-9]+ end' "$work/schedules" && grep -q 'arm 0;p1 test 0' "$work/schedules"
-  else
-    grep -qE -- "$1" "$work/schedules"
-  fi
+  IOCSQ_SCHEDULES=$work/schedules "$1" 6 1000 1 turns && grep '^[0-9]*: p1 ' "$work/schedules"
 }
 
-# The schedules of a storm, and what csqsim says of them: right drivers are accepted, and where a look is missing that is
-# refused without the race.
+# Whether no step of a schedule was refused.
+are_accepted() { ! grep -v '^[0#]' "$work/schedules"; }
+
+# judges_alike CSQSIM: csqsim's verdict on each schedule of the file is that of iocsq's judge, and some are refused.
+judges_alike() {
+  "$top/iocsq/judge" "$work/schedules" "$1" >"$work/said"
+  local status=$?
+  cat "$work/said"
+  ((status == 1)) && tail -1 "$work/said" | grep -qE '^[0-9]{2,} schedules, of which both refuse [0-9]+, and 0 '
+}
+
+# The schedules of a storm, and the verdict of the judge inside: right drivers are accepted, and where a look is missing
+# that is refused without the race. On those of all drivers without an IO_CSQ, right and wrong, csqsim agrees.
 run_judge() {
   local driver number pattern csqsim=${CSQSIM:-$top/crates/csqsim/out/csqsim}
   while read -r driver number pattern; do
     iocsq_build "$work/judged" "$driver" "$number" "$@" 2>"$work/errors" || fail "judge, $driver: not compiled" "$work/errors"
-    expect "judge, $driver $number: its schedules" writes_schedules "$pattern" "$work/judged"
-    if [[ ! -f $csqsim || ! -x $csqsim ]]; then
-      skip "judge, $driver $number" "there is no $csqsim (rt ci builds it)"
-    elif [[ $pattern == none ]]; then
-      expect "judge, $driver: csqsim accepts all" "$top/iocsq/judge" "$work/schedules" "$csqsim"
+    expect "judge, $driver $number: its schedules" writes_schedules "$work/judged"
+    if [[ $pattern == none ]]; then
+      expect "judge, $driver: each is accepted" are_accepted
     else
-      expect "judge, $driver $number: csqsim refuses" refused "NotNext" "$top/iocsq/judge" "$work/schedules" "$csqsim"
+      expect "judge, $driver $number: one is refused" grep -E "^[1-9][0-9]*: .*$pattern" "$work/schedules"
     fi
   done <<'END'
 hand/own 0 none
@@ -126,6 +128,16 @@ hand/own 3 p1 test 0;p1 arm 0
 hand/worker 3 rearm 0;p[0-9]+ end
 END
   expect "judge: no file" refused "name a file of schedules" "$top/iocsq/judge" "$work/none"
+  rm -f "$work/schedules"
+  while read -r driver number; do
+    iocsq_build "$work/judged" "$driver" "$number" "$@" 2>"$work/errors" &&
+      IOCSQ_SCHEDULES=$work/schedules "$work/judged" 6 1000 2 turns >"$work/said" 2>&1
+  done < <(printf '%s 0\n' "${hand[@]}" usual/transfer drivers/reports && grep -oE '^hand/[a-z]+ [0-9]+' "$top/iocsq/tests/wrong.txt")
+  if [[ ! -f $csqsim || ! -x $csqsim ]]; then
+    skip "judge: csqsim's verdicts" "there is no $csqsim (rt ci builds it)"
+  else
+    expect "judge: csqsim's verdicts on $(grep -v '^#' "$work/schedules" | sort -u | wc -l) schedules" judges_alike "$csqsim"
+  fi
 }
 
 # The results of a right driver, and what its three runs covered together: check_passes STORM
