@@ -180,9 +180,8 @@ static void print_schedules(void) {
     struct iocsq_schedules_noted noted = iocsq_schedules_noted();
     if (noted.irps + noted.left_out > 0) {
         print_row("by hand: IRPs whose steps are a schedule", "", noted.irps);
-        print_row(iocsq_is_judge_proved() ? "by hand: schedules, each replayed by the proved machine"
-                                          : "by hand: schedules, each replayed (not proved)",
-                  "", noted.different);
+        print_row("by hand: schedules, each replayed",
+                  iocsq_is_judge_proved() ? " (proved)" : " (not proved)", noted.different);
         print_row("by hand: IRPs whose steps are none", "", noted.left_out);
     }
 }

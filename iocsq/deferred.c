@@ -1,11 +1,8 @@
-/* What runs later: timers and DPCs, on a thread that stands for the processor; work items, on
- * threads of the system. The state's lock is held for all of it, but not while a routine of the
- * driver runs. */
+/* What runs later: timers and DPCs, on a thread that stands for the processor. The state's lock is
+ * held for all of it, but not while a routine of the driver runs. */
 #include "internal.h"
 
-#include <stdlib.h>
-
-enum { WORKERS = 2, TIMER = 8, DPC = 19 }; /* a timer's type is TIMER + its TIMER_TYPE */
+enum { TIMER = 8, DPC = 19 }; /* a timer's type is TIMER + its TIMER_TYPE */
 #define MILLISECOND UINT64_C(1000000)
 #define SOON (100 * MILLISECOND)
 
@@ -14,16 +11,7 @@ static bool timers_changed;
 static KDPC *first_dpc, *last_dpc;
 static const KDPC *running_dpc;
 static IOCSQ_THREAD processor;
-static struct _IO_WORKITEM *first_work, *last_work;
-static IOCSQ_THREAD workers[WORKERS];
-static uint32_t items_allocated;
 static bool ending;
-
-static void check_left(const char *what) {
-    if (iocsq_lock_count() > 0 || KeGetCurrentIrql() != PASSIVE_LEVEL) {
-        iocsq_disagree(NULL, "%s returns with a lock or a changed IRQL", what);
-    }
-}
 
 /* ---- The processor ---- */
 static bool queue_dpc(KDPC *dpc) {
@@ -85,12 +73,26 @@ static void expire_timers(void) {
     timers_changed = false;
 }
 
-/* A DPC or a work item has made its last call, and has yet to return. If that completed the last
- * request, its driver may be unloaded meanwhile, unless the unload waits for it. While more file
- * objects are open nothing is drawn here. */
-static void linger(void) {
+void iocsq_begin_routine(const char *what) {
+    iocsq_point();
+    iocsq_log(NULL, "%s", what);
+    iocsq_own.during = what;
+}
+
+/* It has made its last call, and has yet to return. If that completed the last request, its driver
+ * may be unloaded meanwhile, unless the unload waits for it. While more file objects are open
+ * nothing is drawn here. */
+void iocsq_end_routine(const char *what, KIRQL level) {
+    iocsq_own.during = NULL;
+    iocsq_hand_let_go();
     if (iocsq_open_files() <= 1) {
         iocsq_long_point(2);
+    }
+    if (KeGetCurrentIrql() != level) {
+        iocsq_disagree(NULL, "%s returns at IRQL %u", what, KeGetCurrentIrql());
+    }
+    if (iocsq_lock_count() > 0) {
+        iocsq_disagree(NULL, "%s returns with a lock", what);
     }
 }
 
@@ -100,19 +102,11 @@ static void run_first_dpc(void) {
     dpc->Queued = FALSE;
     running_dpc = dpc;
     iocsq_unlock_state();
-    iocsq_point();
-    iocsq_log(NULL, "a DPC");
+    iocsq_begin_routine("a DPC");
     iocsq_set_irql(DISPATCH_LEVEL);
-    iocsq_own.during = "a DPC";
     call.DeferredRoutine(dpc, call.DeferredContext, call.SystemArgument1, call.SystemArgument2);
-    iocsq_own.during = NULL;
-    iocsq_hand_let_go();
-    linger();
-    if (KeGetCurrentIrql() != DISPATCH_LEVEL) {
-        iocsq_disagree(NULL, "a DPC returns at IRQL %u", KeGetCurrentIrql());
-    }
+    iocsq_end_routine("a DPC", DISPATCH_LEVEL);
     iocsq_set_irql(PASSIVE_LEVEL);
-    check_left("a DPC");
     iocsq_lock_state();
     running_dpc = NULL;
     iocsq_state_changed();
@@ -275,114 +269,6 @@ BOOLEAN NTAPI KeReadStateTimer(PKTIMER Timer) {
     return signaled;
 }
 
-/* ---- Work items ---- */
-struct _IO_WORKITEM {
-    struct _IO_WORKITEM *next;
-    PDEVICE_OBJECT device;
-    PIO_WORKITEM_ROUTINE routine;
-    PVOID context;
-    bool queued;
-    bool of_driver; /* its memory */
-};
-
-static bool has_work(void *of) {
-    (void)of;
-    return first_work || ending;
-}
-
-static void run_first_work(void) {
-    struct _IO_WORKITEM *item = first_work, call = *item; /* its routine may free it, or queue it
-                                                           * again */
-    first_work = item->next;
-    item->queued = false;
-    iocsq_unlock_state();
-    iocsq_point();
-    iocsq_log(NULL, "a work item");
-    iocsq_own.during = "a work item";
-    call.routine(call.device, call.context);
-    iocsq_own.during = NULL;
-    iocsq_hand_let_go();
-    linger();
-    check_left("a work item");
-    iocsq_let_go_of_device(call.device);
-    iocsq_lock_state();
-}
-
-static void *run_worker(void *of) {
-    iocsq_lock_state();
-    while (iocsq_await(has_work, NULL, IOCSQ_FOR_EVER, "a work item") && first_work) {
-        run_first_work();
-    }
-    iocsq_unlock_state();
-    return of;
-}
-
-static void begin_item(struct _IO_WORKITEM *item, PDEVICE_OBJECT device, bool of_driver) {
-    struct _IO_WORKITEM made = { .device = device, .of_driver = of_driver };
-    *item = made;
-    __atomic_add_fetch(&items_allocated, 1, __ATOMIC_SEQ_CST);
-}
-
-PIO_WORKITEM NTAPI IoAllocateWorkItem(PDEVICE_OBJECT DeviceObject) {
-    struct _IO_WORKITEM *item = iocsq_is_scarce("IoAllocateWorkItem") ? NULL : malloc(sizeof *item);
-    if (item) {
-        begin_item(item, DeviceObject, false);
-    }
-    return item;
-}
-
-ULONG NTAPI IoSizeofWorkItem(VOID) {
-    return sizeof(struct _IO_WORKITEM);
-}
-
-VOID NTAPI IoInitializeWorkItem(PVOID IoObject, PIO_WORKITEM IoWorkItem) {
-    iocsq_expect_nonpaged(IoWorkItem, "a work item");
-    begin_item(IoWorkItem, IoObject, true);
-}
-
-VOID NTAPI IoQueueWorkItem(PIO_WORKITEM IoWorkItem, PIO_WORKITEM_ROUTINE WorkerRoutine,
-                           WORK_QUEUE_TYPE QueueType, PVOID Context) {
-    (void)QueueType;
-    iocsq_log_of_driver("IoQueueWorkItem");
-    iocsq_lock_state();
-    if (IoWorkItem->queued) {
-        iocsq_disagree(NULL, "IoQueueWorkItem of a work item that is queued already");
-    }
-    for (int at = 0; at < WORKERS && !workers[at]; at++) {
-        workers[at] = IocsqThread(run_worker, NULL);
-    }
-    IoWorkItem->routine = WorkerRoutine;
-    IoWorkItem->context = Context;
-    IoWorkItem->queued = true;
-    IoWorkItem->next = NULL;
-    *(first_work ? &last_work->next : &first_work) = IoWorkItem;
-    last_work = IoWorkItem;
-    iocsq_hold_device(IoWorkItem->device);
-    iocsq_state_changed();
-    iocsq_unlock_state();
-}
-
-static void end_item(const struct _IO_WORKITEM *item, bool of_driver, const char *call) {
-    iocsq_lock_state();
-    if (item->queued) {
-        iocsq_disagree(NULL, "%s of a work item that is queued", call);
-    }
-    if (item->of_driver != of_driver) {
-        iocsq_disagree(NULL, "%s of a work item that was made by the other call", call);
-    }
-    iocsq_unlock_state();
-    __atomic_sub_fetch(&items_allocated, 1, __ATOMIC_SEQ_CST);
-}
-
-VOID NTAPI IoFreeWorkItem(PIO_WORKITEM IoWorkItem) {
-    end_item(IoWorkItem, false, "IoFreeWorkItem");
-    free(IoWorkItem);
-}
-
-VOID NTAPI IoUninitializeWorkItem(PIO_WORKITEM IoWorkItem) {
-    end_item(IoWorkItem, true, "IoUninitializeWorkItem");
-}
-
 /* ---- Ends ---- */
 static bool lies_in(const void *at, const void *from, size_t size) {
     return (uintptr_t)at - (uintptr_t)from < size;
@@ -407,11 +293,7 @@ void iocsq_check_no_deferred(const void *from, size_t size, const char *what) {
             iocsq_disagree(NULL, "%s, and a DPC in it is queued", what);
         }
     }
-    for (const struct _IO_WORKITEM *at = first_work; at; at = at->next) {
-        if (at->of_driver && lies_in(at, from, size)) {
-            iocsq_disagree(NULL, "%s, and a work item in it is queued", what);
-        }
-    }
+    iocsq_check_no_work(from, size, what);
     if (running_dpc && !iocsq_own.is_processor && lies_in(running_dpc, from, size)) {
         blame(running_dpc);
         iocsq_disagree(NULL, "%s, and a DPC in it runs", what);
@@ -422,19 +304,12 @@ void iocsq_check_no_deferred(const void *from, size_t size, const char *what) {
 /* After the driver was unloaded: nothing of it may run later any more. */
 void iocsq_end_deferred(void) {
     iocsq_check_no_deferred(NULL, SIZE_MAX, "the driver was unloaded");
-    if (items_allocated > 0) {
-        iocsq_disagree(NULL, "the driver was unloaded, and a work item of it was not freed");
-    }
     iocsq_lock_state();
     ending = true;
     iocsq_state_changed();
     iocsq_unlock_state();
     if (processor) {
         IocsqJoin(processor);
-    }
-    for (int at = 0; at < WORKERS && workers[at]; at++) {
-        IocsqJoin(workers[at]);
-        workers[at] = NULL;
     }
     processor = NULL; /* another driver, loaded after this one, begins anew */
     ending = false;

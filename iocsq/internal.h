@@ -456,6 +456,14 @@ void iocsq_cover_end(UCHAR major, NTSTATUS status); /* of a request that was com
 void iocsq_check_no_deferred(const void *from, size_t size, const char *what);
 void iocsq_end_deferred(void);
 bool iocsq_is_under_way(const KDPC *dpc); /* queued, or running: the state's lock is held */
+/* Round a DPC or a work item, which are called at this IRQL. */
+void iocsq_begin_routine(const char *what);
+void iocsq_end_routine(const char *what, KIRQL level);
+
+/* ---- works.c ---- */
+/* No work item lies in there that is queued: the state's lock is held. */
+void iocsq_check_no_work(const void *from, size_t size, const char *what);
+void iocsq_end_works(void);
 
 /* ---- interrupts.c ---- */
 void iocsq_free_deleted_timers(void); /* those whose callback has returned */

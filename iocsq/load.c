@@ -167,6 +167,7 @@ VOID IocsqUnload(PDRIVER_OBJECT Driver) {
     iocsq_join_threads();
     iocsq_check_interrupts_disconnected();
     iocsq_end_deferred();
+    iocsq_end_works();
     iocsq_check_timers_deleted();
     iocsq_check_no_resource(NULL, SIZE_MAX, "the driver was unloaded");
     if (Driver->DeviceObject) {

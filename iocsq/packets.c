@@ -156,6 +156,15 @@ static BOOLEAN insert_packet(PDEVICE_OBJECT device, PIRP irp, const ULONG *key) 
                : KeInsertDeviceQueue(&device->DeviceQueue, entry);
 }
 
+/* As a driver that looks at the flag by itself. */
+static bool is_cancelled(PIRP irp) {
+    struct iocsq_irp *i = iocsq_irp_at(irp);
+    if (i) {
+        iocsq_hand_look(i);
+    }
+    return irp->Cancel;
+}
+
 /* With a cancel routine, under the cancel spin lock: so a cancel comes before, and is seen, or
  * after. */
 static void start_cancelable(PDEVICE_OBJECT device, PIRP irp, const ULONG *key,
@@ -167,7 +176,7 @@ static void start_cancelable(PDEVICE_OBJECT device, PIRP irp, const ULONG *key,
     if (!waits) {
         make_current(device, irp, true);
     }
-    if (waits && irp->Cancel && IoSetCancelRoutine(irp, NULL)) {
+    if (waits && is_cancelled(irp) && IoSetCancelRoutine(irp, NULL)) {
         irp->CancelIrql = before;
         routine(device, irp); /* which releases the cancel spin lock */
         return;

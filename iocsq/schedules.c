@@ -82,7 +82,8 @@ static bool is_noted(uint64_t hash) {
 }
 
 /* A schedule that none before equals. */
-static struct iocsq_verdict judge(const struct iocsq_schedule *s, uint64_t hash, const char *steps) {
+static struct iocsq_verdict judge(const struct iocsq_schedule *s, uint64_t hash,
+                                  const char *steps) {
     struct iocsq_verdict v = iocsq_judge_steps(s);
     char line[LINE + 32];
     if (noted->counts.different == SCHEDULES) {

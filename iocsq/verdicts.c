@@ -54,12 +54,12 @@ bool iocsq_is_judge_proved(void) {
 static const char *advice_of(const struct iocsq_verdict *v, const char *step) {
     const struct csq_inside *inside = &v->refusal.inside;
     if (v->code == CSQ_NOT_NEXT && inside->next == CSQ_STEP_TEST) {
-        return "  It doesn't look at Irp->Cancel after it has set the cancel routine: a cancel that "
-               "came just before found no routine, and is lost.";
+        return "  It doesn't look at Irp->Cancel after it has set the cancel routine: a cancel "
+               "that came just before found no routine, and is lost.";
     }
     if (v->code == CSQ_NOT_NEXT && strcmp(step, "test") == 0) {
-        return "  It looks at Irp->Cancel before it sets the cancel routine, without the cancel spin "
-               "lock: a cancel that comes between finds no routine, and is lost.";
+        return "  It looks at Irp->Cancel before it sets the cancel routine, without the cancel "
+               "spin lock: a cancel that comes between finds no routine, and is lost.";
     }
     if (v->code == CSQ_NOT_NEXT && inside->next == CSQ_STEP_DISARM) {
         return "  It found Irp->Cancel set, and doesn't take its cancel routine back by "
@@ -99,7 +99,8 @@ void iocsq_report_refused(const struct iocsq_irp *i, const struct iocsq_schedule
     char cause[96];
     write_cause(cause, sizeof cause, v);
     iocsq_set_hint(advice_of(v, step->name));
-    iocsq_disagree(i, "the cancel path of irp %u breaks the protocol in step %u, p%u %s: %s (by %s)",
-                   i->index, v->refused, step->pass, step->name, cause,
-                   iocsq_is_judge_proved() ? "the proved machine" : "a machine that isn't proved");
+    iocsq_disagree(
+        i, "the cancel path of irp %u breaks the protocol in step %u, p%u %s: %s (by %s)", i->index,
+        v->refused, step->pass, step->name, cause,
+        iocsq_is_judge_proved() ? "the proved machine" : "a machine that isn't proved");
 }

@@ -1,6 +1,6 @@
-/* For a driver that traces by WPP: what its "NAME.tmh" has, which on Windows a preprocessor makes of
- * the driver's sources. The Makefile of iocsq/new writes such a file, which includes this one. The
- * calls do nothing, and don't evaluate what they are given. Levels are those of <evntrace.h>. */
+/* For a driver that traces by WPP: what its "NAME.tmh" has, which on Windows a preprocessor makes
+ * of the sources. The Makefile of iocsq/new writes such a file, which includes this one. The calls
+ * do nothing, and don't evaluate what they are given. Levels are those of <evntrace.h>. */
 #ifndef IOCSQ_WPP_H
 #define IOCSQ_WPP_H
 #include "../iocsq.h"

@@ -160,10 +160,31 @@ static void free_memory_of_queued_item(void) {
     IoQueueWorkItem(item, work, DelayedWorkQueue, NULL);
     ExFreePool(item);
 }
+static VOID NTAPI work_ex(PVOID object, PVOID context, PIO_WORKITEM item) {
+    (void)object, (void)context, (void)item;
+}
+static void queue_item_twice(void) {
+    PIO_WORKITEM item = IoAllocateWorkItem(NULL);
+    IoQueueWorkItemEx(item, work_ex, DelayedWorkQueue, NULL);
+    IoQueueWorkItemEx(item, work_ex, DelayedWorkQueue, NULL);
+}
+static VOID NTAPI work_of_executive(PVOID context) { (void)context; }
+static void queue_item_of_executive_twice(void) {
+    static WORK_QUEUE_ITEM item;
+    ExInitializeWorkItem(&item, work_of_executive, NULL);
+    ExQueueWorkItem(&item, DelayedWorkQueue);
+    ExQueueWorkItem(&item, DelayedWorkQueue);
+}
+static void free_memory_of_item_of_executive(void) {
+    PWORK_QUEUE_ITEM item = ExAllocatePoolWithTag(NonPagedPoolNx, sizeof *item, 'tseT');
+    ExInitializeWorkItem(item, work_of_executive, NULL);
+    ExQueueWorkItem(item, DelayedWorkQueue);
+    ExFreePool(item);
+}
 static void connect_at_dispatch(void) {
     PKINTERRUPT made;
-    IoConnectInterrupt(&made, NULL, NULL, NULL, 0, DISPATCH_LEVEL, DISPATCH_LEVEL, Latched, FALSE, 1,
-                       FALSE);
+    IoConnectInterrupt(&made, NULL, NULL, NULL, 0, DISPATCH_LEVEL, DISPATCH_LEVEL, Latched, FALSE,
+                       1, FALSE);
 }
 static void disconnect_unknown(void) { IoDisconnectInterrupt((PKINTERRUPT)(void *)none); }
 static KDEVICE_QUEUE queue;
@@ -312,6 +333,9 @@ static const struct {
     MISUSE(free_queued_item, "IoFreeWorkItem of a work item that is queued"),
     MISUSE(free_driver_item, "IoFreeWorkItem of a work item that was made by the other call"),
     MISUSE(free_memory_of_queued_item, "ExFreePool of memory, and a work item in it is queued"),
+    MISUSE(queue_item_twice, "IoQueueWorkItemEx of a work item that is queued already"),
+    MISUSE(queue_item_of_executive_twice, "ExQueueWorkItem of a work item that is queued already"),
+    MISUSE(free_memory_of_item_of_executive, "ExFreePool of memory, and a work item in it is"),
     MISUSE(connect_at_dispatch, "IoConnectInterrupt with IRQL 2 and SynchronizeIrql 2"),
     MISUSE(disconnect_unknown, "IoDisconnectInterrupt of an interrupt that isn't connected"),
     MISUSE(insert_at_passive, "KeInsertDeviceQueue below DISPATCH_LEVEL"),

@@ -252,6 +252,27 @@ static void interrupts(void) {
     CHECK(!IocsqInterrupt(0) && served == 2 && KeGetCurrentIrql() == PASSIVE_LEVEL);
 }
 
+static _Atomic int worked;
+static VOID NTAPI work_ex(PVOID object, PVOID context, PIO_WORKITEM item) {
+    worked += object == NULL && context == &worked ? 1 : 100;
+    IoFreeWorkItem(item);
+}
+static VOID NTAPI work_of_executive(PVOID context) {
+    worked += KeGetCurrentIrql() == PASSIVE_LEVEL && context == &worked ? 10 : 100;
+}
+
+static void work_items(void) {
+    WORK_QUEUE_ITEM of_executive;
+    PIO_WORKITEM item = IoAllocateWorkItem(NULL);
+    CHECK(IoTryQueueWorkItem(item, work_ex, DelayedWorkQueue, (PVOID)&worked));
+    ExInitializeWorkItem(&of_executive, work_of_executive, (PVOID)&worked);
+    ExQueueWorkItem(&of_executive, DelayedWorkQueue);
+    while (worked != 11) {
+        IocsqPause(1000);
+    }
+    CHECK(of_executive.List.Flink == NULL);
+}
+
 static void device_queues(void) {
     KDEVICE_QUEUE queue;
     KDEVICE_QUEUE_ENTRY entries[5] = { { .Inserted = TRUE } };
@@ -392,6 +413,7 @@ int main(int argc, char **argv) {
     RUN(lists_without_a_lock);
     RUN(timers_of_the_executive);
     RUN(interrupts);
+    RUN(work_items);
     RUN(device_queues);
     RUN(lookaside_lists);
     RUN(rundown_protection);
