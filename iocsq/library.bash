@@ -8,7 +8,7 @@ drivers=(drivers/{reports,priority,stages,removal,ticks,workers,counted,requests
   drivers/{handed,calls,parts,sends,locked} examples/{serial,pipe,inverted})
 # hand: those without an IO_CSQ.
 usual=(usual/{again,current,event,idle,interrupt,pass,peek,poll,port,startio,thread,transfer,two})
-hand=(hand/{own,slot,start,system,timed,worker})
+hand=(hand/{own,slot,start,system,timed,worker,packet})
 
 # Compiles the checker once for each compiler and flags, and prints the folder with its objects; those of the tests are
 # in the folder `tests` of it: iocsq_objects COMPILER FLAG..

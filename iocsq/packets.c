@@ -156,7 +156,8 @@ static BOOLEAN insert_packet(PDEVICE_OBJECT device, PIRP irp, const ULONG *key) 
                : KeInsertDeviceQueue(&device->DeviceQueue, entry);
 }
 
-/* As a driver that looks at the flag by itself. */
+/* As a driver that looks at the flag by itself. Windows looks only if the request waits: one that is
+ * the device's at once isn't cancelled any more, and a look that changes nothing does no harm. */
 static bool is_cancelled(PIRP irp) {
     struct iocsq_irp *i = iocsq_irp_at(irp);
     if (i) {
@@ -172,11 +173,12 @@ static void start_cancelable(PDEVICE_OBJECT device, PIRP irp, const ULONG *key,
     KIRQL before;
     IoAcquireCancelSpinLock(&before);
     IoSetCancelRoutine(irp, routine);
+    bool cancelled = is_cancelled(irp);
     BOOLEAN waits = insert_packet(device, irp, key);
     if (!waits) {
         make_current(device, irp, true);
     }
-    if (waits && is_cancelled(irp) && IoSetCancelRoutine(irp, NULL)) {
+    if (waits && cancelled && IoSetCancelRoutine(irp, NULL)) {
         irp->CancelIrql = before;
         routine(device, irp); /* which releases the cancel spin lock */
         return;
