@@ -8,7 +8,7 @@
 #define WRONG 0
 #endif
 
-static PFILE_OBJECT FileOf(PIRP Irp) {
+static inline PFILE_OBJECT FileOf(PIRP Irp) {
     return IoGetCurrentIrpStackLocation(Irp)->FileObject;
 }
 
