@@ -11,6 +11,9 @@ PDRIVER_CANCEL NTAPI IoSetCancelRoutine(PIRP Irp, PDRIVER_CANCEL CancelRoutine) 
     iocsq_point();
     iocsq_log(i, "IoSetCancelRoutine(irp %u, %s)", i->index,
               CancelRoutine ? "one of the driver" : "none");
+    if (CancelRoutine && iocsq_is_by_hand()) {
+        i->late = iocsq_is_closing(i->file); /* before a cleanup's check can find the routine */
+    }
     PDRIVER_CANCEL before = atomic_exchange(&Irp->CancelRoutine, CancelRoutine);
     iocsq_hand_set(i, CancelRoutine != NULL, before != NULL);
     return before;

@@ -9,6 +9,8 @@ drivers=(drivers/{reports,priority,stages,removal,ticks,workers,counted,requests
 # hand: those without an IO_CSQ.
 usual=(usual/{again,current,event,idle,interrupt,pass,peek,poll,port,startio,thread,transfer,two})
 hand=(hand/{own,slot,start,system,timed,worker,packet})
+# kmdf: those over KMDF.
+kmdf=(kmdf/{current,parts,referred,ticked,worked})
 
 # Compiles the checker once for each compiler and flags, and prints the folder with its objects; those of the tests are
 # in the folder `tests` of it: iocsq_objects COMPILER FLAG..
@@ -17,7 +19,7 @@ iocsq_objects() {
   local folder=$work/objects/$name
   if [[ ! -d $folder ]]; then
     mkdir -p "$folder.new/tests"
-    for file in "$top"/iocsq/*.c "$top"/iocsq/tests/{storm,patient,bounded,kernel,names,misuse,coverage,explore,priorities}.c; do
+    for file in "$top"/iocsq/*.c "$top"/iocsq/tests/{storm,patient,bounded,kernel,names,misuse,wdf,coverage,explore,priorities}.c; do
       object=${file#"$top/iocsq/"}
       "$@" -std=c11 "${warnings[@]}" -I"$top/include" -I"$top/iocsq" -c "$file" -o "$folder.new/${object%.c}.o" ||
         return 1

@@ -24,7 +24,11 @@ static VOID NTAPI CancelWaiting(PDEVICE_OBJECT DeviceObject, PIRP Irp) {
     IoReleaseCancelSpinLock(Irp->CancelIrql);
     KeAcquireSpinLock(&Extension->Lock, &Irql);
     RemoveEntryList(&Irp->Tail.Overlay.ListEntry);
+#if WRONG == 4
+    KeReleaseSpinLockFromDpcLevel(&Extension->Lock);
+#else
     KeReleaseSpinLock(&Extension->Lock, Irql);
+#endif
     Complete(Irp, STATUS_CANCELLED);
 }
 

@@ -1,0 +1,2 @@
+/* For a driver that includes <wdf.h>. */
+#include "../iocsq/wdf.h"

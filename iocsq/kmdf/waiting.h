@@ -1,0 +1,8 @@
+/* The policy of those drivers whose reads wait for a write. */
+#include "iocsq_test.h"
+
+static BOOLEAN MayWait(PIRP Irp) {
+    return IoGetCurrentIrpStackLocation(Irp)->MajorFunction == IRP_MJ_READ;
+}
+extern const IOCSQ_POLICY DriverPolicy;
+const IOCSQ_POLICY DriverPolicy = { .Waits = MayWait };
