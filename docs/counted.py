@@ -47,7 +47,7 @@ def faults(repository, name):
 
 
 def right_drivers(repository):
-    found = [re.fullmatch(r'iocsq/((?:drivers|examples|hand|usual)/\w+)\.c', name) for name in repository.files]
+    found = [re.fullmatch(r'iocsq/((?:drivers|examples|hand|kmdf|usual)/\w+)\.c', name) for name in repository.files]
     return sorted(it[1] for it in found if it)
 
 
@@ -93,7 +93,7 @@ def of_the_drivers(repository):
     yield 'docs/DRIVERS.md', r'(\d+) faults in all', str(len(stormed | bounded))
     yield 'docs/DRIVERS.md', r'except (\w+) that take every schedule', WORDS[len(bounded - stormed)]
     yield 'docs/DRIVERS.md', r'in the (\w+) scenarios', WORDS[repository.count(r'iocsq/scenarios/[\w-]+\.txt')]
-    for folder in ('drivers', 'usual', 'examples', 'hand'):
+    for folder in ('drivers', 'usual', 'examples', 'hand', 'kmdf'):
         count = sum(it.startswith(f'{folder}/') for it in drivers)
         yield 'docs/DRIVERS.md', rf'`iocsq/{folder}` (?:has )?(\w+)', WORDS[count]
 

@@ -156,8 +156,8 @@ static BOOLEAN insert_packet(PDEVICE_OBJECT device, PIRP irp, const ULONG *key) 
                : KeInsertDeviceQueue(&device->DeviceQueue, entry);
 }
 
-/* As a driver that looks at the flag by itself. Windows looks only if the request waits: one that is
- * the device's at once isn't cancelled any more, and a look that changes nothing does no harm. */
+/* As a driver that looks at the flag by itself. Windows looks only if the request waits: one that
+ * is the device's at once isn't cancelled any more, and a look that changes nothing is harmless. */
 static bool is_cancelled(PIRP irp) {
     struct iocsq_irp *i = iocsq_irp_at(irp);
     if (i) {

@@ -1,6 +1,6 @@
-/* A plain C ledger of the same header as the proved one, but unproved: to time that one against, and
- * to run the tests on. Its caller's lock is held round each call, so it needs no atomic step, and no
- * queue below it: it is a pending list, and what is known of each number. */
+/* A plain C ledger of the same header as the proved one, but unproved: to time that one against,
+ * and to run the tests on. Its caller's lock is held round each call, so it needs no atomic step,
+ * and no queue below it: it is a pending list, and what is known of each number. */
 #include "csq_ledger.h"
 #include "plain_list.h"
 
