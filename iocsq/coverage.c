@@ -15,7 +15,8 @@ struct iocsq_kind {
     _Atomic bool null_contexts; /* the driver uses null as a peek context */
 };
 static struct iocsq_kind kinds[KINDS];
-static uint32_t kind_count; /* under the queues' mutex until the driver is unloaded */
+static _Atomic uint32_t kind_count; /* changed under the queues' mutex, until the driver is
+                                     * unloaded; iocsq_is_by_hand reads it without */
 static _Atomic ULONG64 events[IOCSQ_EVENTS];
 
 static const char *const event_names[IOCSQ_EVENTS] = {

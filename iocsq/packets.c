@@ -160,22 +160,25 @@ static BOOLEAN insert_packet(PDEVICE_OBJECT device, PIRP irp, const ULONG *key) 
  * after. */
 static void start_cancelable(PDEVICE_OBJECT device, PIRP irp, const ULONG *key,
                              PDRIVER_CANCEL routine) {
+    struct iocsq_irp *i = iocsq_irp_at(irp);
     KIRQL before;
     IoAcquireCancelSpinLock(&before);
     IoSetCancelRoutine(irp, routine);
     BOOLEAN waits = insert_packet(device, irp, key);
     if (!waits) {
         make_current(device, irp, true);
+        iocsq_hand_start(i);
+        IoReleaseCancelSpinLock(before);
+        start(device, irp); /* which looks at the flag */
+        return;
     }
-    if (waits && irp->Cancel && IoSetCancelRoutine(irp, NULL)) {
+    iocsq_hand_look(i);
+    if (irp->Cancel && IoSetCancelRoutine(irp, NULL)) {
         irp->CancelIrql = before;
         routine(device, irp); /* which releases the cancel spin lock */
         return;
     }
     IoReleaseCancelSpinLock(before);
-    if (!waits) {
-        start(device, irp);
-    }
 }
 
 VOID NTAPI IoStartPacket(PDEVICE_OBJECT DeviceObject, PIRP Irp, PULONG Key,
