@@ -9,6 +9,9 @@ drivers=(drivers/{reports,priority,stages,removal,ticks,workers,counted,requests
 # hand: those without an IO_CSQ.
 usual=(usual/{again,current,event,idle,interrupt,pass,peek,poll,port,startio,thread,transfer,two})
 hand=(hand/{own,slot,start,system,timed,worker})
+# unusual: those that keep their requests in ways that are seldom seen; first those with an IO_CSQ.
+unusual=(unusual/{array,chain,context,dpcdone,drain,fastmutex,gate,parked,perfile,ranks,removelock,twolocks,workdone}
+  unusual/{clock,handover,hold,look,mark,packets,recancel,relay,restart,selfcall,slots,state,stored,sweep,switch,twolists})
 
 # Compiles the checker once for each compiler and flags, and prints the folder with its objects; those of the tests are
 # in the folder `tests` of it: iocsq_objects COMPILER FLAG..
