@@ -34,6 +34,9 @@ static void access_memory(const volatile void *at, size_t size, enum access how)
     if (how == WRITES) {
         iocsq_note_write(at, size);
     }
+    if (iocsq_own.is_processor) {
+        iocsq_expect_not_freed(at);
+    }
 }
 
 void __tsan_init(void) {

@@ -10,6 +10,10 @@ static KTIMER *timers; /* that are set */
 static bool timers_changed;
 static KDPC *first_dpc, *last_dpc;
 static const KDPC *running_dpc;
+/* The memory in which it is, where another thread has freed that; 0: none has. It may, once the
+ * routine doesn't use it any more, as where they count references. */
+static _Atomic uintptr_t freed_from;
+static _Atomic size_t freed_size;
 static IOCSQ_THREAD processor;
 static bool ending;
 
@@ -70,7 +74,6 @@ static void expire_timers(void) {
         }
         iocsq_state_changed();
     }
-    timers_changed = false;
 }
 
 void iocsq_begin_routine(const char *what) {
@@ -105,6 +108,7 @@ static void run_first_dpc(void) {
     iocsq_begin_routine("a DPC");
     iocsq_set_irql(DISPATCH_LEVEL);
     call.DeferredRoutine(dpc, call.DeferredContext, call.SystemArgument1, call.SystemArgument2);
+    freed_from = 0;
     iocsq_end_routine("a DPC", DISPATCH_LEVEL);
     iocsq_set_irql(PASSIVE_LEVEL);
     iocsq_lock_state();
@@ -128,6 +132,7 @@ static void *run_processor(void *of) {
     iocsq_own.is_processor = true;
     iocsq_lock_state();
     while (!ending) {
+        timers_changed = false; /* here alone: who cancels a timer doesn't wait for the others */
         KTIMER *next = next_timer();
         uint64_t now = iocsq_now(), wait = !next                 ? IOCSQ_FOR_EVER
                                            : next->DueTime > now ? next->DueTime - now
@@ -294,16 +299,44 @@ void iocsq_check_no_deferred(const void *from, size_t size, const char *what) {
         }
     }
     iocsq_check_no_work(from, size, what);
-    if (running_dpc && !iocsq_own.is_processor && lies_in(running_dpc, from, size)) {
+    iocsq_unlock_state();
+}
+
+/* Whether a DPC in it runs, on another thread. The state's lock is held. */
+static bool is_run_in(const void *from, size_t size) {
+    return running_dpc && !iocsq_own.is_processor && lies_in(running_dpc, from, size);
+}
+
+void iocsq_check_no_running(const void *from, size_t size, const char *what) {
+    iocsq_lock_state();
+    if (is_run_in(from, size)) {
         blame(running_dpc);
         iocsq_disagree(NULL, "%s, and a DPC in it runs", what);
     }
     iocsq_unlock_state();
 }
 
+void iocsq_note_freed(const void *from, size_t size) {
+    iocsq_lock_state();
+    if (is_run_in(from, size)) {
+        freed_size = size;
+        freed_from = (uintptr_t)from;
+    }
+    iocsq_unlock_state();
+}
+
+void iocsq_expect_not_freed(const volatile void *at) {
+    uintptr_t from = freed_from;
+    if (from != 0 && (uintptr_t)at - from < freed_size) {
+        iocsq_disagree(NULL, "a DPC uses the memory in which it is, which another thread has freed "
+                             "meanwhile");
+    }
+}
+
 /* After the driver was unloaded: nothing of it may run later any more. */
 void iocsq_end_deferred(void) {
     iocsq_check_no_deferred(NULL, SIZE_MAX, "the driver was unloaded");
+    iocsq_check_no_running(NULL, SIZE_MAX, "the driver was unloaded");
     iocsq_lock_state();
     ending = true;
     iocsq_state_changed();

@@ -105,6 +105,11 @@ static struct device *to_delete(const void *object) {
     return device;
 }
 
+static void check_nothing_runs_in(const void *from, size_t size) {
+    iocsq_check_no_deferred(from, size, "IoDeleteDevice of a device");
+    iocsq_check_no_running(from, size, "IoDeleteDevice of a device");
+}
+
 VOID NTAPI IoDeleteDevice(PDEVICE_OBJECT DeviceObject) {
     struct device *device = to_delete(DeviceObject);
     iocsq_expect_irql(APC_LEVEL, "IoDeleteDevice");
@@ -115,10 +120,8 @@ VOID NTAPI IoDeleteDevice(PDEVICE_OBJECT DeviceObject) {
     if (device->references > 0) {
         iocsq_disagree(NULL, "IoDeleteDevice of a device, and a reference to it was not dropped");
     }
-    iocsq_check_no_deferred(&DeviceObject->Dpc, sizeof DeviceObject->Dpc,
-                            "IoDeleteDevice of a device");
-    iocsq_check_no_deferred(DeviceObject->DeviceExtension, device->extension_size,
-                            "IoDeleteDevice of a device");
+    check_nothing_runs_in(&DeviceObject->Dpc, sizeof DeviceObject->Dpc);
+    check_nothing_runs_in(DeviceObject->DeviceExtension, device->extension_size);
     iocsq_check_no_lookaside(DeviceObject->DeviceExtension, device->extension_size);
     iocsq_check_no_resource(DeviceObject->DeviceExtension, device->extension_size,
                             "IoDeleteDevice of a device");

@@ -37,7 +37,18 @@ static uint64_t bit_of(uint32_t thread) {
 }
 
 /* ---- The driver reads Irp->Cancel ---- */
+/* Without a lock others may come between the arm and the look, which the steps can't say, since an
+ * insert has the lock from its arm to its test. */
+static void look_without_lock(struct iocsq_irp *i) {
+    if (i->hand.released && i->step_count != i->hand.released_at) {
+        leave_out(i, "another comes between where its cancel routine is set and the look at "
+                     "Irp->Cancel, which its thread does without a lock");
+    }
+    i->hand.released = false;
+}
+
 static void test(struct iocsq_irp *i) {
+    look_without_lock(i);
     iocsq_step(i, i->hand.by, "test");
     i->hand.arming = 0;
     i->hand.must_disarm = i->irp.Cancel ? iocsq_thread() : 0;
@@ -78,6 +89,20 @@ static void go_on_after_removal(struct iocsq_irp *i) {
     h->holder = i->pass;
 }
 
+/* The IRP whose routine this thread has set, and at whose flag it has yet to look; null: none. */
+static struct iocsq_irp *armed_by_this(void) {
+    struct iocsq_irp *i = iocsq_own.arming ? iocsq_irp_number(iocsq_own.arming - 1) : NULL;
+    return i && i->hand.arming == iocsq_thread() ? i : NULL;
+}
+
+void iocsq_hand_release(void) {
+    struct iocsq_irp *i = armed_by_this();
+    if (i && !i->hand.released) {
+        i->hand.released = true;
+        i->hand.released_at = i->step_count;
+    }
+}
+
 /* A thread sets routines of two IRPs before it looks at the first one's flag. */
 static void note_arming(struct iocsq_irp *i) {
     struct iocsq_irp *other = iocsq_own.arming ? iocsq_irp_number(iocsq_own.arming - 1) : NULL;
@@ -87,6 +112,9 @@ static void note_arming(struct iocsq_irp *i) {
     }
     i->hand.arming = iocsq_thread();
     iocsq_own.arming = i->index + 1;
+    if (iocsq_own.lock_count == 0) {
+        iocsq_hand_release();
+    }
 }
 
 /* With the cancel spin lock held from the look on, no cancel came between: so the look is as good
@@ -106,6 +134,7 @@ static void arm(struct iocsq_irp *i) {
         leave_out(i, "a cancel routine is set in the place of another");
     }
     h->by = again ? h->holder : this_pass(i);
+    h->released = h->started = false;
     iocsq_step(i, h->by, again ? "rearm" : "arm");
     h->state = IOCSQ_HAND_ARMED;
     h->armed = true;
@@ -173,19 +202,32 @@ void iocsq_hand_set(struct iocsq_irp *i, bool sets, bool found) {
     }
 }
 
-/* If it has set a routine, and hasn't looked since, it won't. */
-void iocsq_hand_let_go(void) {
-    struct iocsq_irp *i = iocsq_own.arming ? iocsq_irp_number(iocsq_own.arming - 1) : NULL;
-    iocsq_own.arming = 0;
-    if (!i || i->hand.arming != iocsq_thread()) {
-        return;
-    }
-    i->hand.arming = 0;
-    if (i->hand.looked == iocsq_thread()) {
-        iocsq_step_before(i, i->hand.looked_at, i->hand.by, "test"); /* it looked before */
+/* The thread that has set the routine won't look any more. Its insert was over as it released its
+ * last lock, or is now. */
+static void end_arming(struct iocsq_irp *i) {
+    struct iocsq_hand *h = &i->hand;
+    if (h->looked == h->arming) {
+        iocsq_step_before(i, h->looked_at, h->by, "test"); /* it looked before */
+    } else if (h->started) {
+        leave_out(i, "IoStartPacket has set its cancel routine, and StartIo doesn't look");
     } else {
-        iocsq_step(i, i->hand.by, "end"); /* it goes on as if its insert were over */
+        iocsq_step_before(i, h->released ? h->released_at : i->step_count, h->by, "end");
     }
+    h->arming = 0;
+    h->released = false;
+}
+
+void iocsq_hand_let_go(void) {
+    struct iocsq_irp *i = armed_by_this();
+    iocsq_own.arming = 0;
+    if (i) {
+        end_arming(i);
+    }
+}
+
+void iocsq_hand_start(struct iocsq_irp *i) {
+    i->hand.started = true;
+    iocsq_hand_release();
 }
 
 /* ---- IoCancelIrp ---- */
@@ -302,6 +344,9 @@ void iocsq_hand_done(struct iocsq_irp *i) {
     if (i->passed_on) {
         leave_out(i, "it was passed on to a lower driver");
     }
+    if (h->arming && h->released) {
+        end_arming(i); /* of an IRP that is completed nobody reads the flag */
+    }
     if (h->state == IOCSQ_HAND_DONE && h->doubtful && i->step_count <= IOCSQ_STEPS) {
         blame_first(i);
     }
@@ -334,10 +379,12 @@ uint32_t iocsq_hand_pass(const struct iocsq_irp *i) {
 void iocsq_explain_hand(const struct iocsq_irp *i) {
     const struct iocsq_hand *h = &i->hand;
     if (h->thief) {
-        fprintf(stderr,
-                "  t%u completed it though its cancel routine was taken: IoSetCancelRoutine(Irp, "
-                "NULL) returns NULL then, and the IRP is left to the routine.\n",
-                h->thief);
+        fprintf(stderr, "  t%u completed it though %s.\n", h->thief,
+                iocsq_has_framework()
+                    ? "WdfRequestUnmarkCancelable had returned STATUS_CANCELLED: then "
+                      "EvtRequestCancel completes it"
+                    : "its cancel routine was taken: IoSetCancelRoutine(Irp, NULL) returns NULL "
+                      "then, and the IRP is left to the routine");
     }
     if (h->dangling) {
         fprintf(stderr, "  Its cancel routine completed it, and left it in the driver's list: "

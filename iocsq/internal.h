@@ -43,6 +43,9 @@ struct iocsq_hand {
     uint32_t holder;      /* the pass that owes or holds it */
     uint32_t arming;      /* the thread that has set the routine, and has yet to look at the flag;
                            * 0: none */
+    bool released;        /* that thread has released its last lock since, */
+    uint32_t released_at; /* and this was the number of steps then */
+    bool started;         /* IoStartPacket has set it, and the IRP is the device's current one */
     uint32_t by;          /* the pass by which it was set last */
     uint32_t must_disarm; /* the thread that found the flag after it */
     uint32_t looked;      /* a thread that read Irp->Cancel before; with the next three, 0: none */
@@ -152,7 +155,8 @@ struct iocsq_irp *iocsq_in_use(const void *irp, const char *call); /* one that w
 BOOLEAN iocsq_cancel(struct iocsq_irp *i);
 
 /* ---- hand.c: cancel routines of the driver's own, step by step ---- */
-bool iocsq_is_by_hand(void); /* the driver has initialized no IO_CSQ (coverage.c) */
+bool iocsq_is_by_hand(void);    /* the driver has initialized no IO_CSQ (coverage.c) */
+bool iocsq_has_framework(void); /* a KMDF driver is loaded (wdf.c) */
 void iocsq_hand_look(struct iocsq_irp *i); /* the driver reads Irp->Cancel */
 void iocsq_hand_set(struct iocsq_irp *i, bool sets, bool found); /* IoSetCancelRoutine, and whether
                                                                   * it returned a routine */
@@ -164,7 +168,9 @@ void iocsq_hand_return(struct iocsq_irp *i);           /* and returns */
 void iocsq_hand_mark(struct iocsq_irp *i, uint32_t pass);
 void iocsq_hand_link(struct iocsq_irp *i, bool links); /* into a list, or out of it */
 void iocsq_hand_done(struct iocsq_irp *i);             /* IoCompleteRequest */
-void iocsq_hand_let_go(void); /* this thread has no lock any more, or leaves the driver */
+void iocsq_hand_release(void); /* this thread has no lock any more */
+void iocsq_hand_let_go(void);  /* it leaves the driver */
+void iocsq_hand_start(struct iocsq_irp *i); /* IoStartPacket goes on to StartIo */
 /* From here on the IRP is in an IO_CSQ; `goes_on`: in which it was before. */
 void iocsq_hand_end(struct iocsq_irp *i, bool goes_on);
 uint32_t iocsq_hand_pass(const struct iocsq_irp *i); /* by which the steps say that it is held */
@@ -452,8 +458,13 @@ void iocsq_cover(enum iocsq_event event);
 void iocsq_cover_end(UCHAR major, NTSTATUS status); /* of a request that was completed */
 
 /* ---- deferred.c ---- */
-/* No timer or DPC lies in there. */
+/* No timer that is set lies in there, and no DPC that is queued; no DPC that runs. */
 void iocsq_check_no_deferred(const void *from, size_t size, const char *what);
+void iocsq_check_no_running(const void *from, size_t size, const char *what);
+/* Memory that this thread frees. A DPC in it may run, if that doesn't use it any more. */
+void iocsq_note_freed(const void *from, size_t size);
+/* By the DPC that runs: what it uses wasn't freed since it began. */
+void iocsq_expect_not_freed(const volatile void *at);
 void iocsq_end_deferred(void);
 bool iocsq_is_under_way(const KDPC *dpc); /* queued, or running: the state's lock is held */
 /* Round a DPC or a work item, which are called at this IRQL. */

@@ -11,6 +11,9 @@ usual=(usual/{again,current,event,idle,interrupt,pass,peek,poll,port,startio,thr
 hand=(hand/{own,slot,start,system,timed,worker,packet})
 # kmdf: those over KMDF.
 kmdf=(kmdf/{current,parts,referred,ticked,worked})
+# unusual: those that keep their requests in ways that are seldom seen; first those with an IO_CSQ.
+unusual=(unusual/{array,chain,context,dpcdone,drain,fastmutex,gate,parked,perfile,ranks,removelock,twolocks,workdone}
+  unusual/{clock,handover,hold,look,mark,packets,recancel,relay,restart,selfcall,slots,state,stored,sweep,switch,twolists})
 
 # Compiles the checker once for each compiler and flags, and prints the folder with its objects; those of the tests are
 # in the folder `tests` of it: iocsq_objects COMPILER FLAG..

@@ -46,7 +46,7 @@ void iocsq_forget_lock(const void *lock) {
     iocsq_own.lock_count--;
     iocsq_own.watch.releases += lock == iocsq_own.watch.lock;
     if (iocsq_own.lock_count == 0) {
-        iocsq_hand_let_go();
+        iocsq_hand_release();
     }
 }
 
@@ -300,7 +300,8 @@ uint32_t iocsq_cancel_lock_hold(void) {
     return iocsq_has_lock(&cancel_lock) ? iocsq_own.cancel_hold : 0;
 }
 
-/* In a cancel routine it goes back to the IRQL from which IoCancelIrp came. */
+/* In a cancel routine it goes back to the IRQL from which IoCancelIrp came, or stays at
+ * DISPATCH_LEVEL: then the routine goes back later, as by the release of a lock of the driver's. */
 static void check_cancel_irql(KIRQL to) {
     const struct iocsq_irp *i = iocsq_own.routine_of;
     bool last = iocsq_own.spin_lock_count == 1 && iocsq_own.saved_before;
@@ -313,6 +314,10 @@ static void check_cancel_irql(KIRQL to) {
 }
 
 VOID NTAPI IoReleaseCancelSpinLock(KIRQL Irql) {
+    if (iocsq_own.routine_of && Irql == DISPATCH_LEVEL) {
+        KeReleaseSpinLockFromDpcLevel(&cancel_lock);
+        return;
+    }
     check_cancel_irql(Irql);
     KeReleaseSpinLock(&cancel_lock, Irql);
 }

@@ -204,6 +204,7 @@ static void free_pool(void *at, const ULONG *tag) {
     iocsq_expect_irql(found->paged ? APC_LEVEL : DISPATCH_LEVEL, "ExFreePool");
     iocsq_check_no_lookaside(at, found->size);
     iocsq_check_no_deferred(at, found->size, "ExFreePool of memory");
+    iocsq_note_freed(at, found->size);
     iocsq_check_no_resource(at, found->size, "ExFreePool of memory");
     iocsq_end_queues_in(at, found->size, "ExFreePool of memory");
     memset(at, IOCSQ_GONE, found->size); /* for whoever uses it later: not by chance what it was */

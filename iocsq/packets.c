@@ -156,37 +156,29 @@ static BOOLEAN insert_packet(PDEVICE_OBJECT device, PIRP irp, const ULONG *key) 
                : KeInsertDeviceQueue(&device->DeviceQueue, entry);
 }
 
-/* As a driver that looks at the flag by itself. Windows looks only if the request waits: one that
- * is the device's at once isn't cancelled any more, and a look that changes nothing is harmless. */
-static bool is_cancelled(PIRP irp) {
-    struct iocsq_irp *i = iocsq_irp_at(irp);
-    if (i) {
-        iocsq_hand_look(i);
-    }
-    return irp->Cancel;
-}
-
 /* With a cancel routine, under the cancel spin lock: so a cancel comes before, and is seen, or
  * after. */
 static void start_cancelable(PDEVICE_OBJECT device, PIRP irp, const ULONG *key,
                              PDRIVER_CANCEL routine) {
+    struct iocsq_irp *i = iocsq_irp_at(irp);
     KIRQL before;
     IoAcquireCancelSpinLock(&before);
     IoSetCancelRoutine(irp, routine);
-    bool cancelled = is_cancelled(irp);
     BOOLEAN waits = insert_packet(device, irp, key);
     if (!waits) {
         make_current(device, irp, true);
+        iocsq_hand_start(i);
+        IoReleaseCancelSpinLock(before);
+        start(device, irp); /* which looks at the flag */
+        return;
     }
-    if (waits && cancelled && IoSetCancelRoutine(irp, NULL)) {
+    iocsq_hand_look(i);
+    if (irp->Cancel && IoSetCancelRoutine(irp, NULL)) {
         irp->CancelIrql = before;
         routine(device, irp); /* which releases the cancel spin lock */
         return;
     }
     IoReleaseCancelSpinLock(before);
-    if (!waits) {
-        start(device, irp);
-    }
 }
 
 VOID NTAPI IoStartPacket(PDEVICE_OBJECT DeviceObject, PIRP Irp, PULONG Key,

@@ -33,6 +33,9 @@ static void leave_out_put_back(struct iocsq_irp *i) {
             i->put_backs_left_out++;
             i->hand.looked = 0; /* with doubtful_at a number of steps, which is another now */
             i->hand.doubtful = 0;
+            if (i->hand.released) {
+                i->hand.left_out = "it was put back too often";
+            }
             return;
         }
     }

@@ -81,17 +81,14 @@ static bool is_noted(uint64_t hash) {
     return false;
 }
 
-/* A schedule that none before equals. */
-static struct iocsq_verdict judge(const struct iocsq_schedule *s, uint64_t hash,
-                                  const char *steps) {
-    struct iocsq_verdict v = iocsq_judge_steps(s);
+/* A schedule that none before equals, and of which the replay says this. */
+static void keep(const struct iocsq_verdict *v, uint64_t hash, const char *steps) {
     char line[LINE + 32];
     if (noted->counts.different == SCHEDULES) {
         iocsq_fail("more than %u different schedules", (unsigned)SCHEDULES);
     }
     noted->hashes[noted->counts.different++] = hash;
-    write_line(line, (size_t)snprintf(line, sizeof line, "%u: %s", v.refused, steps));
-    return v;
+    write_line(line, (size_t)snprintf(line, sizeof line, "%u: %s", v->refused, steps));
 }
 
 static bool is_cancelling(const struct iocsq_schedule *s, uint32_t pass) {
@@ -126,6 +123,21 @@ static bool can_be_judged(const struct iocsq_irp *i, struct iocsq_schedule *s, c
     return i->place != IOCSQ_DONE || end_cancels(s);
 }
 
+/* A refusal that says nothing of the driver. The lock is the protocol's, which need not be the
+ * driver's; and who has found the flag after its arm may leave it to another to take the routine
+ * back, or call IoCancelIrp, as long as it doesn't complete the IRP. */
+static bool is_unsayable(const struct iocsq_schedule *s, const struct iocsq_verdict *v) {
+    if (v->code == CSQ_NOT_NEXT && v->refusal.inside.next == CSQ_STEP_DISARM) {
+        return strcmp(s->steps[v->refused - 1].name, "done") != 0;
+    }
+    return v->code == CSQ_LOCK_HELD;
+}
+
+static void leave_out(const char *why) {
+    noted->counts.left_out++;
+    write_left_out(why);
+}
+
 /* Whether the IRP's steps are a new schedule; then what came of its replay. */
 static bool note(const struct iocsq_irp *i, struct iocsq_schedule *s, struct iocsq_verdict *v) {
     const char *why;
@@ -134,17 +146,24 @@ static bool note(const struct iocsq_irp *i, struct iocsq_schedule *s, struct ioc
         return false;
     }
     if (!can_be_judged(i, s, &why)) {
-        noted->counts.left_out++;
-        write_left_out(why);
+        leave_out(why);
+        return false;
+    }
+    uint64_t hash = hash_of(line, write_steps(line, s));
+    bool is_new = !is_noted(hash);
+    if (is_new) {
+        *v = iocsq_judge_steps(s);
+    }
+    if (is_new && is_unsayable(s, v)) {
+        leave_out("what comes between where its cancel routine is set and the end of its insert "
+                  "can't be said");
         return false;
     }
     noted->counts.irps++;
-    uint64_t hash = hash_of(line, write_steps(line, s));
-    if (is_noted(hash)) {
-        return false;
+    if (is_new) {
+        keep(v, hash, line);
     }
-    *v = judge(s, hash, line);
-    return true;
+    return is_new;
 }
 
 void iocsq_judge_schedule(const struct iocsq_irp *i) {

@@ -193,6 +193,10 @@ static VOID NTAPI unload(PDRIVER_OBJECT wdm) {
     iocsq_wdf_check_dereferenced();
 }
 
+bool iocsq_has_framework(void) {
+    return the_driver != NULL;
+}
+
 NTSTATUS WdfDriverCreate(PDRIVER_OBJECT DriverObject, PCUNICODE_STRING RegistryPath,
                          PWDF_OBJECT_ATTRIBUTES DriverAttributes, PWDF_DRIVER_CONFIG DriverConfig,
                          WDFDRIVER *Driver) {

@@ -197,6 +197,7 @@ static void destroy(struct iocsq_wdf_object *object) {
     }
     if (size > 0) {
         iocsq_check_no_deferred(object->context, size, "the end of an object's context");
+        iocsq_check_no_running(object->context, size, "the end of an object's context");
         iocsq_end_queues_in(object->context, size, "the end of an object's context");
     }
     if (object->kind == IOCSQ_WDF_REQUEST) {

@@ -38,7 +38,7 @@ ends_with() {
 # With the address sanitizer each run is a process of its own: the schedules are as many.
 run_bounded_right() {
   local driver program=$work/bounded count scenarios=$top/iocsq/scenarios
-  for driver in "${drivers[@]}" "${hand[@]}" "${kmdf[@]}" usual/{current,idle}; do
+  for driver in "${drivers[@]}" "${hand[@]}" "${kmdf[@]}" usual/{current,idle} unusual/{hold,packets,sweep}; do
     if ! TEST=bounded iocsq_build "$program" "$driver" 0 "${compilers[0]}" -O1 2>"$work/errors"; then
       fail "bounded, $driver: not compiled" "$work/errors"
     else

@@ -1,0 +1,8 @@
+/* The queue of ranks.c has an order of its own. */
+#include "iocsq_test.h"
+
+static BOOLEAN MayWait(PIRP Irp) {
+    return IoGetCurrentIrpStackLocation(Irp)->MajorFunction == IRP_MJ_READ;
+}
+extern const IOCSQ_POLICY DriverPolicy;
+const IOCSQ_POLICY DriverPolicy = { .Waits = MayWait, .AnyOrder = TRUE };

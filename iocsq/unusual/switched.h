@@ -1,0 +1,14 @@
+/* The policy of the drivers whose device is switched on and off: while it is off, reads and writes
+ * wait. */
+#include "iocsq_test.h"
+
+static BOOLEAN MayWait(PIRP Irp) {
+    return IoGetCurrentIrpStackLocation(Irp)->MajorFunction != IRP_MJ_DEVICE_CONTROL;
+}
+extern const IOCSQ_POLICY DriverPolicy;
+const IOCSQ_POLICY DriverPolicy = { .Waits = MayWait, .NoneLate = TRUE };
+extern const ULONG DriverControls[];
+const ULONG DriverControls[] = {
+    CTL_CODE(FILE_DEVICE_UNKNOWN, 0x800, METHOD_BUFFERED, FILE_ANY_ACCESS),
+    CTL_CODE(FILE_DEVICE_UNKNOWN, 0x801, METHOD_BUFFERED, FILE_ANY_ACCESS), 0
+};
