@@ -107,6 +107,9 @@ VOID IocsqFree(IOCSQ_REQUEST *Request);                         /* once it was c
 VOID IocsqComplain(IOCSQ_REQUEST *Request, const char *Text);
 /* Ends the program with a report once it has run for so many seconds. */
 VOID IocsqLimit(ULONG Seconds);
+/* Stops for a debugger (SIGTRAP) as the call of this number is logged, of those that a report
+ * shows. */
+VOID IocsqStop(ULONG64 Call);
 
 /* The device interrupts: calls the service routine of an interrupt that the driver has connected,
  * the last one for 0, the one before it for 1, and returns whether it was the device's. FALSE if

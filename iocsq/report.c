@@ -4,6 +4,7 @@
 
 #include <pthread.h>
 #include <sched.h>
+#include <signal.h>
 #include <stdarg.h>
 #include <stdlib.h>
 #include <time.h>
@@ -126,6 +127,12 @@ __attribute__((no_sanitize("thread"))) static void write_history(uint32_t irp, b
     write_line(&of->lines[of->count++ % SHOWN_OF_IRP], number, text);
 }
 
+static uint64_t stops_at = UINT64_MAX; /* the call that a debugger waits for */
+
+VOID IocsqStop(ULONG64 Call) {
+    stops_at = Call;
+}
+
 __attribute__((format(printf, 3, 0))) static void add_line(const struct iocsq_irp *about, bool sent,
                                                            const char *format, va_list rest) {
     char text[TEXT] = "";
@@ -134,6 +141,9 @@ __attribute__((format(printf, 3, 0))) static void add_line(const struct iocsq_ir
     write_line(&lines[number % LINES], number, text);
     if (about) {
         write_history(about->index, sent, number, text);
+    }
+    if (number == stops_at) {
+        raise(SIGTRAP);
     }
 }
 

@@ -106,6 +106,39 @@ run_bounded_wrong() {
   done <"$rows"
 }
 
+# remembers PROGRAM LINE STATUS: with its wrong schedule in the scenario the program prints LINE first, and ends so.
+remembers() {
+  "$1" 0 "$work/remembered.txt" >"$work/said" 2>"$work/report"
+  local status=$?
+  cat "$work/said" "$work/report"
+  head -1 "$work/said" | grep -qxF -- "$work/remembered.txt: schedule $2" && ((status == $3))
+}
+
+# stops PROGRAM SCHEDULE: the call before the last one of a report is where a debugger would look.
+stops() {
+  "$1" --stop 6 --schedule "$2" "$work/remembered.txt" >"$work/said" 2>&1
+  (($? == 128 + 5)) # SIGTRAP
+}
+
+# A scenario that names the schedule which was wrong once: before the mend, after it, and once it is another test.
+run_remembered() {
+  local schedule number
+  for number in 0 1; do
+    TEST=bounded iocsq_build "$work/remembered$number" hand/own $number "$@" 2>"$work/errors" ||
+      fail "bounded, hand/own $number: not compiled" "$work/errors"
+  done
+  cp "$top/iocsq/scenarios/cancel-removal.txt" "$work/remembered.txt"
+  schedule=$("$work/remembered1" 1 "$work/remembered.txt" 2>/dev/null | sed -nE 's/.*--schedule ([0-9:,]+) shows.*/\1/p')
+  echo "schedule $schedule" >>"$work/remembered.txt"
+  expect "bounded: a schedule of the scenario" remembers "$work/remembered1" "$schedule is wrong again" "$disagrees"
+  expect "bounded: the schedule, once mended" remembers "$work/remembered0" "$schedule: nothing is wrong in it any more" 0
+  expect "bounded: a stop for a debugger" stops "$work/remembered1" "$schedule"
+  sed -i 's/^schedule .*/schedule 900:1/' "$work/remembered.txt"
+  expect "bounded: another test's schedule" remembers "$work/remembered0" "900:1 is no longer one of this test" 0
+  echo "schedule x" >>"$work/remembered.txt"
+  expect "bounded: no schedule" refused "remembered.txt:7: a second schedule: x" "$work/remembered0" 0 "$work/remembered.txt"
+}
+
 # drawn_wrong PROGRAM SCENARIO TEXT: a run by priorities has this report, and the same when it is run alone.
 drawn_wrong() {
   local program=$1 scenario=$2 text=$3 schedule status

@@ -5,6 +5,8 @@
  *     bounded --depth DEPTH RUNS SCENARIO..      RUNS runs of each, by priorities that are drawn
  *     bounded --schedule SCHEDULE SCENARIO       this one schedule alone, as the report of a wrong
  *                                                one names it
+ *     bounded --stop CALL --schedule ..          which stops for a debugger (SIGTRAP) as it makes
+ *                                                the call of this number
  *
  * It ends with status 0, with that of the first wrong schedule (70 after a report), and with 71
  * where no scenario inserted anything. 2: an argument or a file is wrong.
@@ -21,6 +23,9 @@
  *     2 wait r               waits until r is completed
  *     3 close f              closes f
  *     3 pause 10             goes on after ten milliseconds
+ *     schedule 4:1,9:1       of no thread: this schedule was wrong once, and is run before all
+ *                            others. If it isn't one of this test any more, as after a change of
+ *                            the driver, a line says so
  *
  * A request to a file object that isn't open, or is being closed, isn't sent. In the end all file
  * objects are closed, and the driver is unloaded. Where its policy says which requests may wait
@@ -28,6 +33,9 @@
  */
 #define _POSIX_C_SOURCE 200809L
 #include "levels.h"
+
+#include <sys/wait.h>
+#include <unistd.h>
 
 enum { THREADS = 3, CALLS = 16, FILES = 8, REQUESTS = 16, NAME = 16, LINE = 256 };
 enum { BYTES = 16, LENGTH = 2, PATIENCE = 2000 };
@@ -62,6 +70,7 @@ static struct thread threads[THREADS];
 static uint32_t file_count, request_count;
 static struct call opened[FILES]; /* before the threads begin */
 static uint32_t opened_count;
+static char remembered[LINE]; /* the schedule that the scenario names; empty: none */
 
 /* ---- The calls ---- */
 static void open_file(const struct call *call) {
@@ -260,6 +269,19 @@ static struct call read_call(struct place at, const struct verb *verb) {
     return call;
 }
 
+static void read_remembered(struct place at) {
+    const char *word = next_word();
+    if (!word || word[strspn(word, "pct0123456789:,")] || remembered[0]) {
+        refuse(at, remembered[0] ? "a second schedule" : "not a schedule, as in 'schedule 4:1,9:1'",
+               word);
+    }
+    strcpy(remembered, word); /* a line's length */
+    const char *left = next_word();
+    if (left) {
+        refuse(at, "a word too many", left);
+    }
+}
+
 static void add_call(struct place at, const char *word) {
     bool numbered = word[0] >= '0' && word[0] <= '9';
     if (numbered && (word[0] < '1' || word[0] > '0' + THREADS || word[1])) {
@@ -294,10 +316,13 @@ static void read_scenario(const char *path) {
     memset(requests, 0, sizeof requests);
     memset(threads, 0, sizeof threads);
     file_count = request_count = opened_count = 0;
+    remembered[0] = 0;
     while (fgets(line, sizeof line, in)) {
         at.line++;
         const char *word = strtok(line, " \t\r\n");
-        if (word && word[0] != '#') {
+        if (word && strcmp(word, "schedule") == 0) {
+            read_remembered(at);
+        } else if (word && word[0] != '#') {
             add_call(at, word);
         }
     }
@@ -364,6 +389,35 @@ static void run(void *context) {
     IocsqUnload(driver);
 }
 
+/* In a process of its own, whose variables and reports are no other run's. */
+static int status_of_remembered(void) {
+    int status = 0;
+    fflush(NULL); /* what is buffered isn't each process's */
+    pid_t child = fork();
+    if (child == 0) {
+        IocsqReplay(run, NULL, remembered);
+        _exit(0);
+    }
+    if (child < 0 || waitpid(child, &status, 0) < 0) {
+        perror("bounded: no process for a schedule");
+        exit(1);
+    }
+    return WIFEXITED(status) ? WEXITSTATUS(status) : 128 + WTERMSIG(status);
+}
+
+static void run_remembered(const char *path) {
+    read_scenario(path);
+    int status = remembered[0] ? status_of_remembered() : 0;
+    if (status == 128 + SIGABRT) {
+        printf("%s: schedule %s is no longer one of this test\n", path, remembered);
+    } else if (status != 0) {
+        printf("%s: schedule %s is wrong again\n", path, remembered);
+        exit(status);
+    } else if (remembered[0]) {
+        printf("%s: schedule %s: nothing is wrong in it any more\n", path, remembered);
+    }
+}
+
 /* One in so many runs shows a fault of this depth, or more. */
 static double one_in(const IOCSQ_EXPLORED *explored, ULONG depth) {
     double runs = explored->Threads;
@@ -407,6 +461,7 @@ static int draw_all(int argc, char **argv) {
 }
 
 int main(int argc, char **argv) {
+    take_stop(&argc, &argv, USAGE);
     bool replays = argc == 4 && strcmp(argv[1], "--schedule") == 0;
     if (argc < 3) {
         fprintf(stderr, "%s\n", USAGE);

@@ -10,10 +10,12 @@
 
 #define USAGE                                                                              \
     "bounded [--seconds N] PREEMPTIONS SCENARIO.., bounded --depth DEPTH RUNS SCENARIO.. or "  \
-    "bounded --schedule SCHEDULE SCENARIO"
+    "bounded [--stop CALL] --schedule SCHEDULE SCENARIO"
 
 static void run(void *context);
 static void read_scenario(const char *path);
+/* Ends the program if the schedule that the scenario names is wrong again. */
+static void run_remembered(const char *path);
 
 static const char *preemptions_of(ULONG count) {
     static char text[32];
@@ -160,6 +162,7 @@ static int explore_all(int argc, char **argv) {
     }
     for (int at = 0; at < count; at++) {
         scenarios[at].path = argv[first + at];
+        run_remembered(scenarios[at].path);
     }
     int status = explore_levels(scenarios, count, preemptions);
     free(scenarios);

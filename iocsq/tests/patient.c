@@ -10,7 +10,7 @@
  */
 #include "program.h"
 
-#define USAGE "patient THREADS ROUNDS SEED"
+#define USAGE "patient [--stop CALL] THREADS ROUNDS SEED"
 enum { THREADS = 6, ROUNDS = 40, FILES = 2, REQUESTS = 2, BYTES = 16, LONGEST = 4, SECONDS = 100 };
 enum { CANCELS = 4, PAUSE = 20 }; /* PAUSE: microseconds */
 
@@ -100,6 +100,7 @@ static void run_round(int threads, bool cancels) {
 }
 
 int main(int argc, char **argv) {
+    take_stop(&argc, &argv, USAGE);
     int threads = (int)number_of_argument(argc, argv, 1, 1, THREADS, USAGE);
     int rounds = (int)number_of_argument(argc, argv, 2, 1, ROUNDS, USAGE);
     uint32_t seed = (uint32_t)number_of_argument(argc, argv, 3, 1, 1000000000, USAGE);

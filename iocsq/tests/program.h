@@ -6,6 +6,7 @@
 #include <stdbool.h>
 #include <stdio.h>
 #include <stdlib.h>
+#include <string.h>
 
 #define CONTROL(function) CTL_CODE(FILE_DEVICE_UNKNOWN, function, METHOD_BUFFERED, FILE_ANY_ACCESS)
 #define ANY_CONTROL CONTROL(0x801)
@@ -60,6 +61,15 @@ static inline long number_of_argument(int argc, char **argv, int at, long least,
         exit(2);
     }
     return value;
+}
+
+/* Takes `--stop N` off the front of the arguments: the run stops for a debugger at call N. */
+static inline void take_stop(int *argc, char ***argv, const char *usage) {
+    if (*argc > 1 && strcmp((*argv)[1], "--stop") == 0) {
+        IocsqStop((ULONG64)number_of_argument(*argc, *argv, 2, 0, 1000000000, usage));
+        *argc -= 2;
+        *argv += 2;
+    }
 }
 
 #endif
