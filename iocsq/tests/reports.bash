@@ -89,7 +89,7 @@ run_places() {
 # writes_schedules STORM: a seed of the storm writes each different schedule of requests that are in no IO_CSQ.
 writes_schedules() {
   rm -f "$work/schedules"
-  IOCSQ_SCHEDULES=$work/schedules "$1" 6 1000 1 turns && grep '^[0-9]*: p1 ' "$work/schedules"
+  IOCSQ_SCHEDULES=$work/schedules "$1" 6 1000 2 turns && grep '^[0-9]*: p1 ' "$work/schedules"
 }
 
 # Whether no step of a schedule was refused.
