@@ -1,6 +1,6 @@
 /* One read waits at a time, with no lock: it is marked by the older call, which may call
- * EvtReadCancel itself, and a reference keeps its handle until whoever has exchanged Current drops
- * it. A write has a DPC complete the read. */
+ * EvtReadCancel itself. A reference to it, and one to its file object, keep their handles until the
+ * thread that has exchanged Current drops both. A write has a DPC complete the read. */
 #include "device.h"
 
 typedef struct _DEVICE_CONTEXT {
@@ -29,6 +29,7 @@ static EVT_WDF_OBJECT_CONTEXT_CLEANUP EvtDeviceCleanup, EvtRequestCleanup;
 
 /* Its handle is good also if EvtReadCancel has completed it. */
 static VOID Finish(WDFREQUEST Request, NTSTATUS Status) {
+    WDFFILEOBJECT File = GetRequestContext(Request)->File;
 #if WRONG == 1
     WdfObjectDereference(Request);
 #endif
@@ -38,6 +39,7 @@ static VOID Finish(WDFREQUEST Request, NTSTATUS Status) {
 #if WRONG != 1 && WRONG != 2
     WdfObjectDereference(Request);
 #endif
+    WdfObjectDereference(File);
 }
 
 /* Current, if it is this one, is no more. */
@@ -47,20 +49,27 @@ static BOOLEAN Forget(PDEVICE_CONTEXT Context, WDFREQUEST Request) {
 
 static VOID EvtReadCancel(WDFREQUEST Request) {
     BOOLEAN Forgotten = Forget(GetRequestContext(Request)->Device, Request);
+    WDFFILEOBJECT File = GetRequestContext(Request)->File;
     WdfRequestComplete(Request, STATUS_CANCELLED);
     if (Forgotten) {
         WdfObjectDereference(Request);
+        WdfObjectDereference(File);
     }
 }
 
-/* The read is marked, with a reference. Its file object's cleanup may have looked before it stands
- * in Current. */
-static VOID Wait(PDEVICE_CONTEXT Context, WDFREQUEST Request, WDFFILEOBJECT File) {
+/* The read is marked, with its references. Its file object's cleanup may have looked before it
+ * stands in Current; once it does, another thread may drop them. */
+static VOID Wait(PDEVICE_CONTEXT Context, WDFREQUEST Request) {
+    WDFFILEOBJECT File = GetRequestContext(Request)->File;
+    WdfObjectReference(File);
     if (InterlockedCompareExchangePointer(&Context->Current, Request, NULL) != NULL) {
         Finish(Request, STATUS_DEVICE_BUSY);
     } else if (ReadAcquire(&GetFileContext(File)->Closed) && Forget(Context, Request)) {
         Finish(Request, STATUS_CANCELLED);
     }
+#if WRONG != 4
+    WdfObjectDereference(File);
+#endif
 }
 
 static VOID EvtIoRead(WDFQUEUE Queue, WDFREQUEST Request, size_t Length) {
@@ -69,7 +78,7 @@ static VOID EvtIoRead(WDFQUEUE Queue, WDFREQUEST Request, size_t Length) {
     UNREFERENCED_PARAMETER(Length);
     GetRequestContext(Request)->Device = Context;
     GetRequestContext(Request)->File = File;
-    WdfObjectReference(File); /* as another may complete the read, and its file object close */
+    WdfObjectReference(File);
 #if WRONG != 3
     WdfObjectReference(Request);
 #endif
@@ -77,10 +86,7 @@ static VOID EvtIoRead(WDFQUEUE Queue, WDFREQUEST Request, size_t Length) {
 #if WRONG == 3
     WdfObjectReference(Request); /* EvtReadCancel may have completed it */
 #endif
-    Wait(Context, Request, File);
-#if WRONG != 4
-    WdfObjectDereference(File);
-#endif
+    Wait(Context, Request);
 }
 
 static VOID EvtDpcFunc(WDFDPC Dpc) {
@@ -106,8 +112,8 @@ static VOID EvtFileCleanup(WDFFILEOBJECT FileObject) {
     }
     if (GetRequestContext(Read)->File == FileObject) {
         Finish(Read, STATUS_CANCELLED);
-    } else if (InterlockedCompareExchangePointer(&Context->Current, Read, NULL) != NULL) {
-        Finish(Read, STATUS_DEVICE_BUSY); /* another waits by now */
+    } else {
+        Wait(Context, Read); /* another may wait by now, or its own cleanup have found none */
     }
 }
 
@@ -121,7 +127,9 @@ static VOID EvtRequestCleanup(WDFOBJECT Request) {
 static VOID EvtDeviceCleanup(WDFOBJECT Device) {
     WDFREQUEST Read = GetDeviceContext(Device)->Current;
     if (Read != NULL) {
+        WDFFILEOBJECT File = GetRequestContext(Read)->File;
         WdfObjectDereference(Read);
+        WdfObjectDereference(File);
     }
 }
 

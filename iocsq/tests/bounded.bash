@@ -79,6 +79,7 @@ bounded_wrong() {
   "$program" 2 "$scenario" >"$work/said" 2>"$work/report"
   status=$?
   cat "$work/said" "$work/report"
+  grep -m1 '^iocsq: t' "$work/report" >>"$work/reports"
   schedule=$(sed -nE 's/.*--schedule ([0-9:,]+) shows it again$/\1/p' "$work/said")
   ((status == disagrees || status == crash)) && grep -qE -- "$text" "$work/report" &&
     grep -qE "is wrong, with $preemptions preemptions? and none with fewer" "$work/said" &&
