@@ -3,16 +3,14 @@
 #include "unusual.h"
 
 typedef struct _EXTENSION {
-    IO_CSQ Queue;
-    KSPIN_LOCK Lock;
-    PIRP First; /* under Lock, with the links */
+    LOCKED_QUEUE Reads;
+    PIRP First; /* under the queue's lock, with the links */
 } EXTENSION, *PEXTENSION;
 
 DRIVER_INITIALIZE DriverEntry;
-static DRIVER_DISPATCH Read, Write, Cleanup;
 
 static PEXTENSION Of(PIO_CSQ Csq) {
-    return CONTAINING_RECORD(Csq, EXTENSION, Queue);
+    return CONTAINING_RECORD(Csq, EXTENSION, Reads.Queue);
 }
 
 static PIRP NextOf(PIRP Irp) {
@@ -58,49 +56,7 @@ static PIRP NTAPI Peek(PIO_CSQ Csq, PIRP Irp, PVOID PeekContext) {
     return At;
 }
 
-static VOID NTAPI Acquire(PIO_CSQ Csq, PKIRQL Irql) {
-    KeAcquireSpinLock(&Of(Csq)->Lock, Irql);
-}
-
-static VOID NTAPI Release(PIO_CSQ Csq, KIRQL Irql) {
-    KeReleaseSpinLock(&Of(Csq)->Lock, Irql);
-}
-
-static NTSTATUS NTAPI Read(PDEVICE_OBJECT DeviceObject, PIRP Irp) {
-    PEXTENSION Extension = DeviceObject->DeviceExtension;
-    NTSTATUS Status = IoCsqInsertIrpEx(&Extension->Queue, Irp, NULL, NULL);
-    return NT_SUCCESS(Status) ? STATUS_PENDING : Complete(Irp, Status);
-}
-
-static NTSTATUS NTAPI Write(PDEVICE_OBJECT DeviceObject, PIRP Irp) {
-    PEXTENSION Extension = DeviceObject->DeviceExtension;
-    PIRP Waiting = IoCsqRemoveNextIrp(&Extension->Queue, NULL);
-    if (Waiting != NULL) {
-        Complete(Waiting, STATUS_SUCCESS);
-    }
-    return Complete(Irp, STATUS_SUCCESS);
-}
-
-static NTSTATUS NTAPI Cleanup(PDEVICE_OBJECT DeviceObject, PIRP Irp) {
-    PEXTENSION Extension = DeviceObject->DeviceExtension;
-    PIRP Left;
-    KIRQL Irql;
-    KeAcquireSpinLock(&Extension->Lock, &Irql);
-    FileOf(Irp)->FsContext = Extension;
-    KeReleaseSpinLock(&Extension->Lock, Irql);
-    while ((Left = IoCsqRemoveNextIrp(&Extension->Queue, FileOf(Irp))) != NULL) {
-        Complete(Left, STATUS_CANCELLED);
-    }
-    return Complete(Irp, STATUS_SUCCESS);
-}
-
 NTSTATUS NTAPI DriverEntry(PDRIVER_OBJECT DriverObject, PUNICODE_STRING RegistryPath) {
-    PEXTENSION Extension = Begin(DriverObject, sizeof(EXTENSION), Read, Write, Cleanup);
     UNREFERENCED_PARAMETER(RegistryPath);
-    if (Extension == NULL) {
-        return STATUS_INSUFFICIENT_RESOURCES;
-    }
-    KeInitializeSpinLock(&Extension->Lock);
-    return IoCsqInitializeEx(&Extension->Queue, Insert, Remove, Peek, Acquire, Release,
-                             CompleteWaiting);
+    return InitializeLocked(DriverObject, sizeof(EXTENSION), Insert, Remove, Peek);
 }

@@ -1,25 +1,17 @@
 /* Each read has a timer of its own, in a context that points back to it: the timer's DPC, a cancel
  * and a write race for the read. The context is freed by the last of the queue and the timer. */
-#include "unusual.h"
+#include "requests.h"
 
-#define POOL_TAG 'kclC'
-
-typedef struct _REQUEST {
+struct _REQUEST {
     LIST_ENTRY Entry; /* under the lock, with Irp */
     PIRP Irp;         /* null: it was taken */
     LONG volatile References;
     KTIMER Timer;
     KDPC Dpc;
-    struct _EXTENSION *Extension;
-} REQUEST, *PREQUEST;
+    PEXTENSION Extension;
+};
 
-typedef struct _EXTENSION {
-    KSPIN_LOCK Lock;
-    LIST_ENTRY Requests;
-} EXTENSION, *PEXTENSION;
-
-DRIVER_INITIALIZE DriverEntry;
-static DRIVER_DISPATCH Read, Write, Cleanup;
+static QUEUE Queue;
 static DRIVER_CANCEL CancelRead;
 static KDEFERRED_ROUTINE TimeOut;
 
@@ -88,16 +80,9 @@ static VOID NTAPI TimeOut(PKDPC Dpc, PVOID Context, PVOID First, PVOID Second) {
     Release(Request); /* the timer's */
 }
 
-/* Whether it waits. The lock is held. */
 static BOOLEAN Queue(PEXTENSION Extension, PREQUEST Request) {
     LARGE_INTEGER Soon;
-    if (IsClosed(Request->Irp)) {
-        return FALSE;
-    }
-    InsertTailList(&Extension->Requests, &Request->Entry);
-    IoSetCancelRoutine(Request->Irp, CancelRead);
-    if (Request->Irp->Cancel && IoSetCancelRoutine(Request->Irp, NULL) != NULL) {
-        RemoveEntryList(&Request->Entry);
+    if (!ArmEntry(&Extension->Requests, &Request->Entry, Request->Irp, CancelRead)) {
         return FALSE;
     }
     Soon.QuadPart = -10000; /* a millisecond */
@@ -108,8 +93,6 @@ static BOOLEAN Queue(PEXTENSION Extension, PREQUEST Request) {
 static NTSTATUS NTAPI Read(PDEVICE_OBJECT DeviceObject, PIRP Irp) {
     PEXTENSION Extension = DeviceObject->DeviceExtension;
     PREQUEST Request = ExAllocatePoolWithTag(NonPagedPool, sizeof(REQUEST), POOL_TAG);
-    BOOLEAN Waits;
-    KIRQL Irql;
     if (Request == NULL) {
         return Complete(Irp, STATUS_INSUFFICIENT_RESOURCES);
     }
@@ -118,16 +101,7 @@ static NTSTATUS NTAPI Read(PDEVICE_OBJECT DeviceObject, PIRP Irp) {
     Request->Extension = Extension;
     KeInitializeTimer(&Request->Timer);
     KeInitializeDpc(&Request->Dpc, TimeOut, Request);
-    Irp->Tail.Overlay.DriverContext[0] = Request;
-    IoMarkIrpPending(Irp);
-    KeAcquireSpinLock(&Extension->Lock, &Irql);
-    Waits = Queue(Extension, Request);
-    KeReleaseSpinLock(&Extension->Lock, Irql);
-    if (!Waits) {
-        ExFreePoolWithTag(Request, POOL_TAG);
-        Complete(Irp, STATUS_CANCELLED);
-    }
-    return STATUS_PENDING;
+    return WaitAs(Extension, Request, Irp, Queue);
 }
 
 /* Ends the first that no cancel has, of this file object or of any for null, if there is one. */
@@ -150,31 +124,4 @@ static BOOLEAN EndOne(PEXTENSION Extension, PFILE_OBJECT File, NTSTATUS Status) 
         End(Request, Irp, Status);
     }
     return Irp != NULL;
-}
-
-static NTSTATUS NTAPI Write(PDEVICE_OBJECT DeviceObject, PIRP Irp) {
-    EndOne(DeviceObject->DeviceExtension, NULL, STATUS_SUCCESS);
-    return Complete(Irp, STATUS_SUCCESS);
-}
-
-static NTSTATUS NTAPI Cleanup(PDEVICE_OBJECT DeviceObject, PIRP Irp) {
-    PEXTENSION Extension = DeviceObject->DeviceExtension;
-    KIRQL Irql;
-    KeAcquireSpinLock(&Extension->Lock, &Irql);
-    FileOf(Irp)->FsContext = Extension;
-    KeReleaseSpinLock(&Extension->Lock, Irql);
-    while (EndOne(Extension, FileOf(Irp), STATUS_CANCELLED)) {
-    }
-    return Complete(Irp, STATUS_SUCCESS);
-}
-
-NTSTATUS NTAPI DriverEntry(PDRIVER_OBJECT DriverObject, PUNICODE_STRING RegistryPath) {
-    PEXTENSION Extension = Begin(DriverObject, sizeof(EXTENSION), Read, Write, Cleanup);
-    UNREFERENCED_PARAMETER(RegistryPath);
-    if (Extension == NULL) {
-        return STATUS_INSUFFICIENT_RESOURCES;
-    }
-    KeInitializeSpinLock(&Extension->Lock);
-    InitializeListHead(&Extension->Requests);
-    return STATUS_SUCCESS;
 }

@@ -1,6 +1,6 @@
 /* Each read is kept in a context that points back to it, with the framework's own context in it and
  * a timer, which the insert callback sets. Its DPC asks the queue for just this read. */
-#include "unusual.h"
+#include "removed.h"
 
 #define POOL_TAG 'txtC'
 
@@ -10,15 +10,10 @@ typedef struct _REQUEST {
     LONG volatile References; /* of the queue and of the timer */
     KTIMER Timer;
     KDPC Dpc;
-    struct _EXTENSION *Extension;
+    PWAITING Reads;
 } REQUEST, *PREQUEST;
 
-typedef struct _EXTENSION {
-    WAITING Reads;
-} EXTENSION, *PEXTENSION;
-
-DRIVER_INITIALIZE DriverEntry;
-static DRIVER_DISPATCH Read, Write, Cleanup;
+static DRIVER_DISPATCH Read, Write;
 static KDEFERRED_ROUTINE TimeOut;
 
 static VOID Release(PREQUEST Request) {
@@ -27,9 +22,9 @@ static VOID Release(PREQUEST Request) {
     }
 }
 
-/* Ends a read that is the caller's. */
-static VOID End(PIRP Irp, NTSTATUS Status) {
+static VOID End(PVOID DeviceExtension, PIRP Irp, NTSTATUS Status) {
     PREQUEST Request = Irp->Tail.Overlay.DriverContext[0];
+    UNREFERENCED_PARAMETER(DeviceExtension);
     ASSERT(Request->Irp == Irp);
     if (KeCancelTimer(&Request->Timer)) {
         Release(Request);
@@ -50,25 +45,20 @@ static NTSTATUS NTAPI InsertAndSetTimer(PIO_CSQ Csq, PIRP Irp, PVOID InsertConte
     return Status;
 }
 
-static VOID NTAPI CompleteCanceled(PIO_CSQ Csq, PIRP Irp) {
-    UNREFERENCED_PARAMETER(Csq);
-    End(Irp, STATUS_CANCELLED);
-}
-
 static VOID NTAPI TimeOut(PKDPC Dpc, PVOID Context, PVOID First, PVOID Second) {
     PREQUEST Request = Context;
-    PIRP Irp = IoCsqRemoveIrp(&Request->Extension->Reads.Queue, &Request->Context);
+    PIRP Irp = IoCsqRemoveIrp(&Request->Reads->Queue, &Request->Context);
     UNREFERENCED_PARAMETER(Dpc);
     UNREFERENCED_PARAMETER(First);
     UNREFERENCED_PARAMETER(Second);
     if (Irp != NULL) {
-        End(Irp, STATUS_IO_TIMEOUT);
+        End(Request->Reads, Irp, STATUS_IO_TIMEOUT);
     }
     Release(Request); /* the timer's */
 }
 
 static NTSTATUS NTAPI Read(PDEVICE_OBJECT DeviceObject, PIRP Irp) {
-    PEXTENSION Extension = DeviceObject->DeviceExtension;
+    PWAITING Reads = DeviceObject->DeviceExtension;
     PREQUEST Request = ExAllocatePoolWithTag(NonPagedPool, sizeof(REQUEST), POOL_TAG);
     NTSTATUS Status;
     if (Request == NULL) {
@@ -76,11 +66,11 @@ static NTSTATUS NTAPI Read(PDEVICE_OBJECT DeviceObject, PIRP Irp) {
     }
     Request->Irp = Irp;
     Request->References = 2;
-    Request->Extension = Extension;
+    Request->Reads = Reads;
     KeInitializeTimer(&Request->Timer);
     KeInitializeDpc(&Request->Dpc, TimeOut, Request);
     Irp->Tail.Overlay.DriverContext[0] = Request;
-    Status = IoCsqInsertIrpEx(&Extension->Reads.Queue, Irp, &Request->Context, Request);
+    Status = IoCsqInsertIrpEx(&Reads->Queue, Irp, &Request->Context, Request);
     if (!NT_SUCCESS(Status)) {
         ExFreePoolWithTag(Request, POOL_TAG);
         return Complete(Irp, Status);
@@ -89,32 +79,16 @@ static NTSTATUS NTAPI Read(PDEVICE_OBJECT DeviceObject, PIRP Irp) {
 }
 
 static NTSTATUS NTAPI Write(PDEVICE_OBJECT DeviceObject, PIRP Irp) {
-    PEXTENSION Extension = DeviceObject->DeviceExtension;
-    PIRP Waiting = IoCsqRemoveNextIrp(&Extension->Reads.Queue, NULL);
-    if (Waiting != NULL) {
-        End(Waiting, STATUS_SUCCESS);
-    }
-    return Complete(Irp, STATUS_SUCCESS);
-}
-
-static NTSTATUS NTAPI Cleanup(PDEVICE_OBJECT DeviceObject, PIRP Irp) {
-    PEXTENSION Extension = DeviceObject->DeviceExtension;
-    PIRP Left;
-    CloseFile(&Extension->Reads, FileOf(Irp));
-    while ((Left = IoCsqRemoveNextIrp(&Extension->Reads.Queue, FileOf(Irp))) != NULL) {
-        End(Left, STATUS_CANCELLED);
-    }
+    EndOldest(DeviceObject->DeviceExtension);
     return Complete(Irp, STATUS_SUCCESS);
 }
 
 NTSTATUS NTAPI DriverEntry(PDRIVER_OBJECT DriverObject, PUNICODE_STRING RegistryPath) {
-    PEXTENSION Extension = Begin(DriverObject, sizeof(EXTENSION), Read, Write, Cleanup);
+    PWAITING Reads = Begin(DriverObject, sizeof(WAITING), Read, Write, EndAtCleanup);
     UNREFERENCED_PARAMETER(RegistryPath);
-    if (Extension == NULL) {
+    if (Reads == NULL) {
         return STATUS_INSUFFICIENT_RESOURCES;
     }
-    InitializeListHead(&Extension->Reads.Irps);
-    KeInitializeSpinLock(&Extension->Reads.Lock);
-    return IoCsqInitializeEx(&Extension->Reads.Queue, InsertAndSetTimer, RemoveWaiting, PeekWaiting,
-                             LockWaiting, UnlockWaiting, CompleteCanceled);
+    InitializeOwn(Reads, InsertAndSetTimer, PeekWaiting, EndCanceled);
+    return STATUS_SUCCESS;
 }

@@ -9,7 +9,7 @@ typedef struct _EXTENSION {
 
 DRIVER_INITIALIZE DriverEntry;
 static DRIVER_UNLOAD Unload;
-static DRIVER_DISPATCH Read, Write, Cleanup;
+static DRIVER_DISPATCH Write;
 
 static PEXTENSION Of(PIO_CSQ Csq) {
     return CONTAINING_RECORD(Csq, EXTENSION, Reads.Queue);
@@ -31,10 +31,6 @@ static PIRP NTAPI Peek(PIO_CSQ Csq, PIRP Irp, PVOID PeekContext) {
     return Next;
 }
 
-static NTSTATUS NTAPI Read(PDEVICE_OBJECT DeviceObject, PIRP Irp) {
-    return Wait(DeviceObject->DeviceExtension, Irp);
-}
-
 /* Completes all reads that wait. */
 static NTSTATUS NTAPI Write(PDEVICE_OBJECT DeviceObject, PIRP Irp) {
     PEXTENSION Extension = DeviceObject->DeviceExtension;
@@ -42,11 +38,6 @@ static NTSTATUS NTAPI Write(PDEVICE_OBJECT DeviceObject, PIRP Irp) {
     while ((Waiting = IoCsqRemoveNextIrp(&Extension->Reads.Queue, NULL)) != NULL) {
         Complete(Waiting, STATUS_SUCCESS);
     }
-    return Complete(Irp, STATUS_SUCCESS);
-}
-
-static NTSTATUS NTAPI Cleanup(PDEVICE_OBJECT DeviceObject, PIRP Irp) {
-    CleanUp(DeviceObject->DeviceExtension, FileOf(Irp));
     return Complete(Irp, STATUS_SUCCESS);
 }
 
@@ -60,13 +51,14 @@ static VOID NTAPI Unload(PDRIVER_OBJECT DriverObject) {
 }
 
 NTSTATUS NTAPI DriverEntry(PDRIVER_OBJECT DriverObject, PUNICODE_STRING RegistryPath) {
-    PEXTENSION Extension = Begin(DriverObject, sizeof(EXTENSION), Read, Write, Cleanup);
+    PEXTENSION Extension = Begin(DriverObject, sizeof(EXTENSION), QueueRead, Write,
+                                 CleanupWaiting);
     UNREFERENCED_PARAMETER(RegistryPath);
     if (Extension == NULL) {
         return STATUS_INSUFFICIENT_RESOURCES;
     }
     DriverObject->DriverUnload = Unload;
     KeInitializeEvent(&Extension->Empty, NotificationEvent, TRUE);
-    InitializeOwn(&Extension->Reads, Insert, Peek);
+    InitializeOwn(&Extension->Reads, Insert, Peek, CompleteWaiting);
     return STATUS_SUCCESS;
 }

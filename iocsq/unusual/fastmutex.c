@@ -9,7 +9,7 @@ typedef struct _EXTENSION {
 } EXTENSION, *PEXTENSION;
 
 DRIVER_INITIALIZE DriverEntry;
-static DRIVER_DISPATCH Read, Write, Cleanup;
+static DRIVER_DISPATCH Cleanup;
 
 static PEXTENSION Of(PIO_CSQ Csq) {
     return CONTAINING_RECORD(Csq, EXTENSION, Queue);
@@ -43,35 +43,17 @@ static VOID NTAPI Release(PIO_CSQ Csq, KIRQL Irql) {
     ExReleaseFastMutex(&Of(Csq)->Mutex);
 }
 
-static NTSTATUS NTAPI Read(PDEVICE_OBJECT DeviceObject, PIRP Irp) {
-    PEXTENSION Extension = DeviceObject->DeviceExtension;
-    NTSTATUS Status = IoCsqInsertIrpEx(&Extension->Queue, Irp, NULL, NULL);
-    return NT_SUCCESS(Status) ? STATUS_PENDING : Complete(Irp, Status);
-}
-
-static NTSTATUS NTAPI Write(PDEVICE_OBJECT DeviceObject, PIRP Irp) {
-    PEXTENSION Extension = DeviceObject->DeviceExtension;
-    PIRP Waiting = IoCsqRemoveNextIrp(&Extension->Queue, NULL);
-    if (Waiting != NULL) {
-        Complete(Waiting, STATUS_SUCCESS);
-    }
-    return Complete(Irp, STATUS_SUCCESS);
-}
-
 static NTSTATUS NTAPI Cleanup(PDEVICE_OBJECT DeviceObject, PIRP Irp) {
     PEXTENSION Extension = DeviceObject->DeviceExtension;
-    PIRP Left;
     ExAcquireFastMutex(&Extension->Mutex);
     FileOf(Irp)->FsContext = Extension;
     ExReleaseFastMutex(&Extension->Mutex);
-    while ((Left = IoCsqRemoveNextIrp(&Extension->Queue, FileOf(Irp))) != NULL) {
-        Complete(Left, STATUS_CANCELLED);
-    }
-    return Complete(Irp, STATUS_SUCCESS);
+    return CleanQueue(&Extension->Queue, Irp);
 }
 
 NTSTATUS NTAPI DriverEntry(PDRIVER_OBJECT DriverObject, PUNICODE_STRING RegistryPath) {
-    PEXTENSION Extension = Begin(DriverObject, sizeof(EXTENSION), Read, Write, Cleanup);
+    PEXTENSION Extension = Begin(DriverObject, sizeof(EXTENSION), QueueRead, WriteToQueue,
+                                 Cleanup);
     UNREFERENCED_PARAMETER(RegistryPath);
     if (Extension == NULL) {
         return STATUS_INSUFFICIENT_RESOURCES;

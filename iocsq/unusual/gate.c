@@ -4,55 +4,23 @@
 #include "unusual.h"
 
 typedef struct _EXTENSION {
-    KSPIN_LOCK Lock;  /* before the queue's */
-    LIST_ENTRY Gate;  /* under Lock */
+    READS Gate; /* its lock is taken before the queue's */
     WAITING Through;
 } EXTENSION, *PEXTENSION;
 
 DRIVER_INITIALIZE DriverEntry;
 static DRIVER_DISPATCH Read, Write, Cleanup;
-static DRIVER_CANCEL CancelAtGate;
-
-static VOID NTAPI CancelAtGate(PDEVICE_OBJECT DeviceObject, PIRP Irp) {
-    PEXTENSION Extension = DeviceObject->DeviceExtension;
-    KIRQL Irql;
-    IoReleaseCancelSpinLock(Irp->CancelIrql);
-    KeAcquireSpinLock(&Extension->Lock, &Irql);
-    RemoveEntryList(&Irp->Tail.Overlay.ListEntry);
-    KeReleaseSpinLock(&Extension->Lock, Irql);
-    Complete(Irp, STATUS_CANCELLED);
-}
-
-static VOID WaitAtGate(PEXTENSION Extension, PIRP Irp) {
-    BOOLEAN Waits;
-    KIRQL Irql;
-    KeAcquireSpinLock(&Extension->Lock, &Irql);
-    Waits = ArmIn(&Extension->Gate, Irp, CancelAtGate);
-    KeReleaseSpinLock(&Extension->Lock, Irql);
-    if (!Waits) {
-        Complete(Irp, STATUS_CANCELLED);
-    }
-}
-
-static PIRP TakeAtGate(PEXTENSION Extension, PFILE_OBJECT File) {
-    PIRP Irp;
-    KIRQL Irql;
-    KeAcquireSpinLock(&Extension->Lock, &Irql);
-    Irp = TakeFrom(&Extension->Gate, File);
-    KeReleaseSpinLock(&Extension->Lock, Irql);
-    return Irp;
-}
 
 static NTSTATUS NTAPI Read(PDEVICE_OBJECT DeviceObject, PIRP Irp) {
     IoMarkIrpPending(Irp);
-    WaitAtGate(DeviceObject->DeviceExtension, Irp);
+    WaitIn(DeviceObject->DeviceExtension, Irp, CancelInReads);
     return STATUS_PENDING;
 }
 
 static NTSTATUS NTAPI Write(PDEVICE_OBJECT DeviceObject, PIRP Irp) {
     PEXTENSION Extension = DeviceObject->DeviceExtension;
     PIRP Ready = IoCsqRemoveNextIrp(&Extension->Through.Queue, NULL);
-    PIRP Next = TakeAtGate(Extension, NULL);
+    PIRP Next = Take(&Extension->Gate, NULL);
     if (Next != NULL) {
         NTSTATUS Status = IoCsqInsertIrpEx(&Extension->Through.Queue, Next, NULL, NULL);
         if (!NT_SUCCESS(Status)) {
@@ -60,23 +28,17 @@ static NTSTATUS NTAPI Write(PDEVICE_OBJECT DeviceObject, PIRP Irp) {
         }
     }
     if (Ready != NULL && IoGetCurrentIrpStackLocation(Irp)->Parameters.Write.Length % 2 != 0) {
-        WaitAtGate(Extension, Ready);
-    } else if (Ready != NULL) {
-        Complete(Ready, STATUS_SUCCESS);
+        WaitIn(&Extension->Gate, Ready, CancelInReads);
+        Ready = NULL;
     }
-    return Complete(Irp, STATUS_SUCCESS);
+    return CompleteBoth(Ready, Irp);
 }
 
 static NTSTATUS NTAPI Cleanup(PDEVICE_OBJECT DeviceObject, PIRP Irp) {
     PEXTENSION Extension = DeviceObject->DeviceExtension;
     PIRP Left;
-    KIRQL Irql;
-    KeAcquireSpinLock(&Extension->Lock, &Irql);
-    KeAcquireSpinLockAtDpcLevel(&Extension->Through.Lock);
-    FileOf(Irp)->FsContext = Extension;
-    KeReleaseSpinLockFromDpcLevel(&Extension->Through.Lock);
-    KeReleaseSpinLock(&Extension->Lock, Irql);
-    while ((Left = TakeAtGate(Extension, FileOf(Irp))) != NULL ||
+    MarkClosedUnderBoth(&Extension->Gate.Lock, &Extension->Through.Lock, FileOf(Irp));
+    while ((Left = Take(&Extension->Gate, FileOf(Irp))) != NULL ||
            (Left = IoCsqRemoveNextIrp(&Extension->Through.Queue, FileOf(Irp))) != NULL) {
         Complete(Left, STATUS_CANCELLED);
     }
@@ -84,13 +46,11 @@ static NTSTATUS NTAPI Cleanup(PDEVICE_OBJECT DeviceObject, PIRP Irp) {
 }
 
 NTSTATUS NTAPI DriverEntry(PDRIVER_OBJECT DriverObject, PUNICODE_STRING RegistryPath) {
-    PEXTENSION Extension = Begin(DriverObject, sizeof(EXTENSION), Read, Write, Cleanup);
+    PEXTENSION Extension = BeginReads(DriverObject, sizeof(EXTENSION), Read, Write, Cleanup);
     UNREFERENCED_PARAMETER(RegistryPath);
     if (Extension == NULL) {
         return STATUS_INSUFFICIENT_RESOURCES;
     }
-    KeInitializeSpinLock(&Extension->Lock);
-    InitializeListHead(&Extension->Gate);
     InitializeWaiting(&Extension->Through, CompleteWaiting);
     return STATUS_SUCCESS;
 }

@@ -3,34 +3,34 @@
 #include "unusual.h"
 
 typedef struct _EXTENSION {
-    KSPIN_LOCK Lock;
-    LIST_ENTRY Reads, Cancelled; /* under Lock */
+    READS Reads;
+    LIST_ENTRY Cancelled; /* under the lock of Reads */
     KDPC Dpc;
 } EXTENSION, *PEXTENSION;
 
 DRIVER_INITIALIZE DriverEntry;
-static DRIVER_DISPATCH Read, Write, Cleanup;
+static DRIVER_DISPATCH Read;
 static DRIVER_CANCEL CancelRead;
 static KDEFERRED_ROUTINE CompleteCancelled;
 
 static VOID NTAPI CancelRead(PDEVICE_OBJECT DeviceObject, PIRP Irp) {
     PEXTENSION Extension = DeviceObject->DeviceExtension;
     KIRQL Irql = Irp->CancelIrql;
-    KeAcquireSpinLockAtDpcLevel(&Extension->Lock); /* after the cancel spin lock */
+    KeAcquireSpinLockAtDpcLevel(&Extension->Reads.Lock); /* after the cancel spin lock */
     RemoveEntryList(&Irp->Tail.Overlay.ListEntry);
     InsertTailList(&Extension->Cancelled, &Irp->Tail.Overlay.ListEntry);
-    KeReleaseSpinLockFromDpcLevel(&Extension->Lock);
+    KeReleaseSpinLockFromDpcLevel(&Extension->Reads.Lock);
     KeInsertQueueDpc(&Extension->Dpc, NULL, NULL);
     IoReleaseCancelSpinLock(Irql);
 }
 
 static PIRP NextCancelled(PEXTENSION Extension) {
     PIRP Irp = NULL;
-    KeAcquireSpinLockAtDpcLevel(&Extension->Lock);
+    KeAcquireSpinLockAtDpcLevel(&Extension->Reads.Lock);
     if (!IsListEmpty(&Extension->Cancelled)) {
         Irp = OfEntry(RemoveHeadList(&Extension->Cancelled));
     }
-    KeReleaseSpinLockFromDpcLevel(&Extension->Lock);
+    KeReleaseSpinLockFromDpcLevel(&Extension->Reads.Lock);
     return Irp;
 }
 
@@ -45,57 +45,18 @@ static VOID NTAPI CompleteCancelled(PKDPC Dpc, PVOID Context, PVOID First, PVOID
 }
 
 static NTSTATUS NTAPI Read(PDEVICE_OBJECT DeviceObject, PIRP Irp) {
-    PEXTENSION Extension = DeviceObject->DeviceExtension;
-    BOOLEAN Waits;
-    KIRQL Irql;
     IoMarkIrpPending(Irp);
-    KeAcquireSpinLock(&Extension->Lock, &Irql);
-    Waits = ArmIn(&Extension->Reads, Irp, CancelRead);
-    KeReleaseSpinLock(&Extension->Lock, Irql);
-    if (!Waits) {
-        Complete(Irp, STATUS_CANCELLED);
-    }
+    WaitIn(DeviceObject->DeviceExtension, Irp, CancelRead);
     return STATUS_PENDING;
 }
 
-static PIRP Take(PEXTENSION Extension, PFILE_OBJECT File) {
-    PIRP Irp;
-    KIRQL Irql;
-    KeAcquireSpinLock(&Extension->Lock, &Irql);
-    Irp = TakeFrom(&Extension->Reads, File);
-    KeReleaseSpinLock(&Extension->Lock, Irql);
-    return Irp;
-}
-
-static NTSTATUS NTAPI Write(PDEVICE_OBJECT DeviceObject, PIRP Irp) {
-    PIRP Waiting = Take(DeviceObject->DeviceExtension, NULL);
-    if (Waiting != NULL) {
-        Complete(Waiting, STATUS_SUCCESS);
-    }
-    return Complete(Irp, STATUS_SUCCESS);
-}
-
-static NTSTATUS NTAPI Cleanup(PDEVICE_OBJECT DeviceObject, PIRP Irp) {
-    PEXTENSION Extension = DeviceObject->DeviceExtension;
-    PIRP Left;
-    KIRQL Irql;
-    KeAcquireSpinLock(&Extension->Lock, &Irql);
-    FileOf(Irp)->FsContext = Extension;
-    KeReleaseSpinLock(&Extension->Lock, Irql);
-    while ((Left = Take(Extension, FileOf(Irp))) != NULL) {
-        Complete(Left, STATUS_CANCELLED);
-    }
-    return Complete(Irp, STATUS_SUCCESS);
-}
-
 NTSTATUS NTAPI DriverEntry(PDRIVER_OBJECT DriverObject, PUNICODE_STRING RegistryPath) {
-    PEXTENSION Extension = Begin(DriverObject, sizeof(EXTENSION), Read, Write, Cleanup);
+    PEXTENSION Extension = BeginReads(DriverObject, sizeof(EXTENSION), Read, WriteToReads,
+                                      CleanupReads);
     UNREFERENCED_PARAMETER(RegistryPath);
     if (Extension == NULL) {
         return STATUS_INSUFFICIENT_RESOURCES;
     }
-    KeInitializeSpinLock(&Extension->Lock);
-    InitializeListHead(&Extension->Reads);
     InitializeListHead(&Extension->Cancelled);
     KeInitializeDpc(&Extension->Dpc, CompleteCancelled, Extension);
     return STATUS_SUCCESS;

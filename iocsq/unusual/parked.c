@@ -1,9 +1,7 @@
 /* While the device is off, requests are parked in the queue; a device control switches it on, and
  * starts them. */
+#include "codes.h"
 #include "unusual.h"
-
-#define CODE_ON CTL_CODE(FILE_DEVICE_UNKNOWN, 0x800, METHOD_BUFFERED, FILE_ANY_ACCESS)
-#define CODE_OFF CTL_CODE(FILE_DEVICE_UNKNOWN, 0x801, METHOD_BUFFERED, FILE_ANY_ACCESS)
 
 typedef struct _EXTENSION {
     WAITING Parked;
@@ -11,7 +9,7 @@ typedef struct _EXTENSION {
 } EXTENSION, *PEXTENSION;
 
 DRIVER_INITIALIZE DriverEntry;
-static DRIVER_DISPATCH Serve, Control, Cleanup;
+static DRIVER_DISPATCH Serve, Control;
 
 static NTSTATUS NTAPI InsertWhileOff(PIO_CSQ Csq, PIRP Irp, PVOID InsertContext) {
     if (CONTAINING_RECORD(Csq, EXTENSION, Parked.Queue)->IsOn) {
@@ -49,18 +47,13 @@ static NTSTATUS NTAPI Control(PDEVICE_OBJECT DeviceObject, PIRP Irp) {
     return Complete(Irp, STATUS_SUCCESS);
 }
 
-static NTSTATUS NTAPI Cleanup(PDEVICE_OBJECT DeviceObject, PIRP Irp) {
-    CleanUp(DeviceObject->DeviceExtension, FileOf(Irp));
-    return Complete(Irp, STATUS_SUCCESS);
-}
-
 NTSTATUS NTAPI DriverEntry(PDRIVER_OBJECT DriverObject, PUNICODE_STRING RegistryPath) {
-    PEXTENSION Extension = Begin(DriverObject, sizeof(EXTENSION), Serve, Serve, Cleanup);
+    PEXTENSION Extension = Begin(DriverObject, sizeof(EXTENSION), Serve, Serve, CleanupWaiting);
     UNREFERENCED_PARAMETER(RegistryPath);
     if (Extension == NULL) {
         return STATUS_INSUFFICIENT_RESOURCES;
     }
     DriverObject->MajorFunction[IRP_MJ_DEVICE_CONTROL] = Control;
-    InitializeOwn(&Extension->Parked, InsertWhileOff, PeekWaiting);
+    InitializeOwn(&Extension->Parked, InsertWhileOff, PeekWaiting, CompleteWaiting);
     return STATUS_SUCCESS;
 }

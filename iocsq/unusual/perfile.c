@@ -22,7 +22,7 @@ static NTSTATUS NTAPI Create(PDEVICE_OBJECT DeviceObject, PIRP Irp) {
     if (Reads == NULL) {
         return Complete(Irp, STATUS_INSUFFICIENT_RESOURCES);
     }
-    InitializeOwn(Reads, Insert, PeekWaiting);
+    InitializeOwn(Reads, Insert, PeekWaiting, CompleteWaiting);
     FileOf(Irp)->FsContext = Reads;
     return Complete(Irp, STATUS_SUCCESS);
 }

@@ -57,7 +57,8 @@ static NTSTATUS NTAPI Read(PDEVICE_OBJECT DeviceObject, PIRP Irp) {
     return STATUS_PENDING;
 }
 
-static PIRP Take(PEXTENSION Extension, PFILE_OBJECT File) {
+/* The first that no cancel has, of this file object or of any for null; its slot is empty then. */
+static PIRP EmptySlot(PEXTENSION Extension, PFILE_OBJECT File) {
     PIRP Found = NULL;
     ULONG At;
     KIRQL Irql;
@@ -75,21 +76,14 @@ static PIRP Take(PEXTENSION Extension, PFILE_OBJECT File) {
 }
 
 static NTSTATUS NTAPI Write(PDEVICE_OBJECT DeviceObject, PIRP Irp) {
-    PIRP Waiting = Take(DeviceObject->DeviceExtension, NULL);
-    if (Waiting != NULL) {
-        Complete(Waiting, STATUS_SUCCESS);
-    }
-    return Complete(Irp, STATUS_SUCCESS);
+    return CompleteBoth(EmptySlot(DeviceObject->DeviceExtension, NULL), Irp);
 }
 
 static NTSTATUS NTAPI Cleanup(PDEVICE_OBJECT DeviceObject, PIRP Irp) {
     PEXTENSION Extension = DeviceObject->DeviceExtension;
     PIRP Left;
-    KIRQL Irql;
-    KeAcquireSpinLock(&Extension->Lock, &Irql);
-    FileOf(Irp)->FsContext = Extension;
-    KeReleaseSpinLock(&Extension->Lock, Irql);
-    while ((Left = Take(Extension, FileOf(Irp))) != NULL) {
+    MarkClosed(&Extension->Lock, FileOf(Irp));
+    while ((Left = EmptySlot(Extension, FileOf(Irp))) != NULL) {
         Complete(Left, STATUS_CANCELLED);
     }
     return Complete(Irp, STATUS_SUCCESS);

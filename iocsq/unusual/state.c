@@ -1,26 +1,19 @@
 /* Who ends a request is decided by its state alone, an interlocked word: the cancel routine or a
  * removal. If the removal wins and the cancel routine was taken already, the later of the two
  * completes the request, for which they count references. */
-#include "unusual.h"
+#include "requests.h"
 
-#define POOL_TAG 'tatS'
 enum { PENDING, CANCELLED, DONE };
 
-typedef struct _REQUEST {
+struct _REQUEST {
     LIST_ENTRY Entry; /* under the lock, with Linked */
     BOOLEAN Linked;
     LONG volatile State, References; /* of the list or the removal, and of the cancel routine */
     PIRP Irp;
     NTSTATUS Status; /* of a removal that has won */
-} REQUEST, *PREQUEST;
+};
 
-typedef struct _EXTENSION {
-    KSPIN_LOCK Lock;
-    LIST_ENTRY Requests;
-} EXTENSION, *PEXTENSION;
-
-DRIVER_INITIALIZE DriverEntry;
-static DRIVER_DISPATCH Read, Write, Cleanup;
+static QUEUE Queue;
 static DRIVER_CANCEL CancelRead;
 
 /* The last reference to a request that was removed completes it. */
@@ -55,43 +48,20 @@ static VOID NTAPI CancelRead(PDEVICE_OBJECT DeviceObject, PIRP Irp) {
     Release(Request);
 }
 
-/* Whether it waits. The lock is held. */
 static BOOLEAN Queue(PEXTENSION Extension, PREQUEST Request) {
-    PIRP Irp = Request->Irp;
-    if (IsClosed(Irp)) {
-        return FALSE;
-    }
-    InsertTailList(&Extension->Requests, &Request->Entry);
     Request->Linked = TRUE;
-    IoSetCancelRoutine(Irp, CancelRead);
-    if (Irp->Cancel && IoSetCancelRoutine(Irp, NULL) != NULL) {
-        RemoveEntryList(&Request->Entry);
-        return FALSE;
-    }
-    return TRUE;
+    return ArmEntry(&Extension->Requests, &Request->Entry, Request->Irp, CancelRead);
 }
 
 static NTSTATUS NTAPI Read(PDEVICE_OBJECT DeviceObject, PIRP Irp) {
-    PEXTENSION Extension = DeviceObject->DeviceExtension;
     PREQUEST Request = ExAllocatePoolWithTag(NonPagedPool, sizeof(REQUEST), POOL_TAG);
-    BOOLEAN Waits;
-    KIRQL Irql;
     if (Request == NULL) {
         return Complete(Irp, STATUS_INSUFFICIENT_RESOURCES);
     }
     RtlZeroMemory(Request, sizeof(REQUEST));
     Request->References = 2;
     Request->Irp = Irp;
-    Irp->Tail.Overlay.DriverContext[0] = Request;
-    IoMarkIrpPending(Irp);
-    KeAcquireSpinLock(&Extension->Lock, &Irql);
-    Waits = Queue(Extension, Request);
-    KeReleaseSpinLock(&Extension->Lock, Irql);
-    if (!Waits) {
-        ExFreePoolWithTag(Request, POOL_TAG);
-        Complete(Irp, STATUS_CANCELLED);
-    }
-    return STATUS_PENDING;
+    return WaitAs(DeviceObject->DeviceExtension, Request, Irp, Queue);
 }
 
 /* The first of this file object, or of any for null. It is in the list no more. */
@@ -114,7 +84,7 @@ static PREQUEST Unlink(PEXTENSION Extension, PFILE_OBJECT File) {
 }
 
 /* Whether there was one, which is or will be completed. */
-static BOOLEAN End(PEXTENSION Extension, PFILE_OBJECT File, NTSTATUS Status) {
+static BOOLEAN EndOne(PEXTENSION Extension, PFILE_OBJECT File, NTSTATUS Status) {
     PREQUEST Request = Unlink(Extension, File);
     if (Request == NULL) {
         return FALSE;
@@ -126,31 +96,4 @@ static BOOLEAN End(PEXTENSION Extension, PFILE_OBJECT File, NTSTATUS Status) {
     }
     Release(Request);
     return TRUE;
-}
-
-static NTSTATUS NTAPI Write(PDEVICE_OBJECT DeviceObject, PIRP Irp) {
-    End(DeviceObject->DeviceExtension, NULL, STATUS_SUCCESS);
-    return Complete(Irp, STATUS_SUCCESS);
-}
-
-static NTSTATUS NTAPI Cleanup(PDEVICE_OBJECT DeviceObject, PIRP Irp) {
-    PEXTENSION Extension = DeviceObject->DeviceExtension;
-    KIRQL Irql;
-    KeAcquireSpinLock(&Extension->Lock, &Irql);
-    FileOf(Irp)->FsContext = Extension;
-    KeReleaseSpinLock(&Extension->Lock, Irql);
-    while (End(Extension, FileOf(Irp), STATUS_CANCELLED)) {
-    }
-    return Complete(Irp, STATUS_SUCCESS);
-}
-
-NTSTATUS NTAPI DriverEntry(PDRIVER_OBJECT DriverObject, PUNICODE_STRING RegistryPath) {
-    PEXTENSION Extension = Begin(DriverObject, sizeof(EXTENSION), Read, Write, Cleanup);
-    UNREFERENCED_PARAMETER(RegistryPath);
-    if (Extension == NULL) {
-        return STATUS_INSUFFICIENT_RESOURCES;
-    }
-    KeInitializeSpinLock(&Extension->Lock);
-    InitializeListHead(&Extension->Requests);
-    return STATUS_SUCCESS;
 }

@@ -1,54 +1,10 @@
 /* Neither the cancel routine nor the dispatch routine that finds Irp->Cancel set completes a
  * request: a DPC looks through the list, and completes what is marked or cancelled. */
-#include "unusual.h"
+#include "marked.h"
 
-typedef struct _EXTENSION {
-    KSPIN_LOCK Lock;
-    LIST_ENTRY Reads; /* under Lock, with the marks */
-    KDPC Sweeper;
-} EXTENSION, *PEXTENSION;
-
-DRIVER_INITIALIZE DriverEntry;
-static DRIVER_DISPATCH Read, Write, Cleanup;
-static DRIVER_CANCEL CancelRead;
-static KDEFERRED_ROUTINE Sweep;
-
-static VOID NTAPI CancelRead(PDEVICE_OBJECT DeviceObject, PIRP Irp) {
-    PEXTENSION Extension = DeviceObject->DeviceExtension;
-    KIRQL Irql;
-    IoReleaseCancelSpinLock(Irp->CancelIrql);
-    KeAcquireSpinLock(&Extension->Lock, &Irql);
-    Irp->Tail.Overlay.DriverContext[0] = Irp;
-    KeReleaseSpinLock(&Extension->Lock, Irql);
-    KeInsertQueueDpc(&Extension->Sweeper, NULL, NULL); /* FALSE: it has yet to run */
-}
-
-/* The first that is marked, or was cancelled before its routine was set. */
-static PIRP NextMarked(PEXTENSION Extension) {
-    PLIST_ENTRY Entry;
-    PIRP Found = NULL;
-    KeAcquireSpinLockAtDpcLevel(&Extension->Lock);
-    for (Entry = Extension->Reads.Flink; Entry != &Extension->Reads; Entry = Entry->Flink) {
-        PIRP Irp = OfEntry(Entry);
-        if (Irp->Tail.Overlay.DriverContext[0] != NULL ||
-            (Irp->Cancel && IoSetCancelRoutine(Irp, NULL) != NULL)) {
-            Found = Irp;
-            RemoveEntryList(Entry);
-            break;
-        }
-    }
-    KeReleaseSpinLockFromDpcLevel(&Extension->Lock);
-    return Found;
-}
-
-static VOID NTAPI Sweep(PKDPC Dpc, PVOID Context, PVOID First, PVOID Second) {
-    PIRP Irp;
-    UNREFERENCED_PARAMETER(Dpc);
-    UNREFERENCED_PARAMETER(First);
-    UNREFERENCED_PARAMETER(Second);
-    while ((Irp = NextMarked(Context)) != NULL) {
-        Complete(Irp, STATUS_CANCELLED);
-    }
+/* A request that was cancelled before its routine was set has no mark. */
+static BOOLEAN IsOver(PIRP Irp) {
+    return IsMarked(Irp) || (Irp->Cancel && IoSetCancelRoutine(Irp, NULL) != NULL);
 }
 
 static NTSTATUS NTAPI Read(PDEVICE_OBJECT DeviceObject, PIRP Irp) {
@@ -57,60 +13,18 @@ static NTSTATUS NTAPI Read(PDEVICE_OBJECT DeviceObject, PIRP Irp) {
     KIRQL Irql;
     IoMarkIrpPending(Irp);
     Irp->Tail.Overlay.DriverContext[0] = NULL;
-    KeAcquireSpinLock(&Extension->Lock, &Irql);
+    KeAcquireSpinLock(&Extension->Reads.Lock, &Irql);
     Waits = !IsClosed(Irp);
     if (Waits) {
-        InsertTailList(&Extension->Reads, &Irp->Tail.Overlay.ListEntry);
+        InsertTailList(&Extension->Reads.Irps, &Irp->Tail.Overlay.ListEntry);
         IoSetCancelRoutine(Irp, CancelRead);
         if (Irp->Cancel) {
             KeInsertQueueDpc(&Extension->Sweeper, NULL, NULL);
         }
     }
-    KeReleaseSpinLock(&Extension->Lock, Irql);
+    KeReleaseSpinLock(&Extension->Reads.Lock, Irql);
     if (!Waits) {
         Complete(Irp, STATUS_CANCELLED);
     }
     return STATUS_PENDING;
-}
-
-static PIRP Take(PEXTENSION Extension, PFILE_OBJECT File) {
-    PIRP Irp;
-    KIRQL Irql;
-    KeAcquireSpinLock(&Extension->Lock, &Irql);
-    Irp = TakeFrom(&Extension->Reads, File);
-    KeReleaseSpinLock(&Extension->Lock, Irql);
-    return Irp;
-}
-
-static NTSTATUS NTAPI Write(PDEVICE_OBJECT DeviceObject, PIRP Irp) {
-    PIRP Waiting = Take(DeviceObject->DeviceExtension, NULL);
-    if (Waiting != NULL) {
-        Complete(Waiting, STATUS_SUCCESS);
-    }
-    return Complete(Irp, STATUS_SUCCESS);
-}
-
-static NTSTATUS NTAPI Cleanup(PDEVICE_OBJECT DeviceObject, PIRP Irp) {
-    PEXTENSION Extension = DeviceObject->DeviceExtension;
-    PIRP Left;
-    KIRQL Irql;
-    KeAcquireSpinLock(&Extension->Lock, &Irql);
-    FileOf(Irp)->FsContext = Extension;
-    KeReleaseSpinLock(&Extension->Lock, Irql);
-    while ((Left = Take(Extension, FileOf(Irp))) != NULL) {
-        Complete(Left, STATUS_CANCELLED);
-    }
-    return Complete(Irp, STATUS_SUCCESS);
-}
-
-NTSTATUS NTAPI DriverEntry(PDRIVER_OBJECT DriverObject, PUNICODE_STRING RegistryPath) {
-    PEXTENSION Extension = Begin(DriverObject, sizeof(EXTENSION), Read, Write, Cleanup);
-    UNREFERENCED_PARAMETER(RegistryPath);
-    if (Extension == NULL) {
-        return STATUS_INSUFFICIENT_RESOURCES;
-    }
-    KeInitializeSpinLock(&Extension->Lock);
-    InitializeListHead(&Extension->Reads);
-    KeInitializeDpc(&Extension->Sweeper, Sweep, Extension);
-    return STATUS_SUCCESS;
 }

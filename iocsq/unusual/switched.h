@@ -1,5 +1,6 @@
 /* The policy of the drivers whose device is switched on and off: while it is off, reads and writes
  * wait. */
+#include "codes.h"
 #include "iocsq_test.h"
 
 static BOOLEAN MayWait(PIRP Irp) {
@@ -8,7 +9,4 @@ static BOOLEAN MayWait(PIRP Irp) {
 extern const IOCSQ_POLICY DriverPolicy;
 const IOCSQ_POLICY DriverPolicy = { .Waits = MayWait, .NoneLate = TRUE };
 extern const ULONG DriverControls[];
-const ULONG DriverControls[] = {
-    CTL_CODE(FILE_DEVICE_UNKNOWN, 0x800, METHOD_BUFFERED, FILE_ANY_ACCESS),
-    CTL_CODE(FILE_DEVICE_UNKNOWN, 0x801, METHOD_BUFFERED, FILE_ANY_ACCESS), 0
-};
+const ULONG DriverControls[] = { CODE_ON, CODE_OFF, 0 };

@@ -3,8 +3,8 @@
 #include "unusual.h"
 
 typedef struct _EXTENSION {
-    KSPIN_LOCK Lock;
-    LIST_ENTRY Reads, Writes; /* under Lock; one of them is empty, but for what a cancel has */
+    READS Reads;
+    LIST_ENTRY Writes; /* under the lock of Reads; one list is empty, but for what a cancel has */
 } EXTENSION, *PEXTENSION;
 
 DRIVER_INITIALIZE DriverEntry;
@@ -12,13 +12,7 @@ static DRIVER_DISPATCH ReadWrite, Cleanup;
 static DRIVER_CANCEL CancelEither;
 
 static VOID NTAPI CancelEither(PDEVICE_OBJECT DeviceObject, PIRP Irp) {
-    PEXTENSION Extension = DeviceObject->DeviceExtension;
-    KIRQL Irql;
-    IoReleaseCancelSpinLock(Irp->CancelIrql);
-    KeAcquireSpinLock(&Extension->Lock, &Irql);
-    RemoveEntryList(&Irp->Tail.Overlay.ListEntry);
-    KeReleaseSpinLock(&Extension->Lock, Irql);
-    Complete(Irp, STATUS_CANCELLED);
+    CancelIn(DeviceObject->DeviceExtension, Irp);
 }
 
 static NTSTATUS NTAPI ReadWrite(PDEVICE_OBJECT DeviceObject, PIRP Irp) {
@@ -28,12 +22,12 @@ static NTSTATUS NTAPI ReadWrite(PDEVICE_OBJECT DeviceObject, PIRP Irp) {
     BOOLEAN Waits = FALSE;
     KIRQL Irql;
     IoMarkIrpPending(Irp);
-    KeAcquireSpinLock(&Extension->Lock, &Irql);
-    Other = TakeFrom(IsRead ? &Extension->Writes : &Extension->Reads, NULL);
+    KeAcquireSpinLock(&Extension->Reads.Lock, &Irql);
+    Other = TakeFrom(IsRead ? &Extension->Writes : &Extension->Reads.Irps, NULL);
     if (Other == NULL) {
-        Waits = ArmIn(IsRead ? &Extension->Reads : &Extension->Writes, Irp, CancelEither);
+        Waits = ArmIn(IsRead ? &Extension->Reads.Irps : &Extension->Writes, Irp, CancelEither);
     }
-    KeReleaseSpinLock(&Extension->Lock, Irql);
+    KeReleaseSpinLock(&Extension->Reads.Lock, Irql);
     if (Other != NULL) {
         Complete(Other, STATUS_SUCCESS);
     }
@@ -43,35 +37,35 @@ static NTSTATUS NTAPI ReadWrite(PDEVICE_OBJECT DeviceObject, PIRP Irp) {
     return STATUS_PENDING;
 }
 
-static PIRP Take(PEXTENSION Extension, PFILE_OBJECT File) {
+/* One of either list. */
+static PIRP TakeLeft(PEXTENSION Extension, PFILE_OBJECT File) {
     PIRP Irp;
     KIRQL Irql;
-    KeAcquireSpinLock(&Extension->Lock, &Irql);
+    KeAcquireSpinLock(&Extension->Reads.Lock, &Irql);
     File->FsContext = Extension;
-    Irp = TakeFrom(&Extension->Reads, File);
+    Irp = TakeFrom(&Extension->Reads.Irps, File);
     if (Irp == NULL) {
         Irp = TakeFrom(&Extension->Writes, File);
     }
-    KeReleaseSpinLock(&Extension->Lock, Irql);
+    KeReleaseSpinLock(&Extension->Reads.Lock, Irql);
     return Irp;
 }
 
 static NTSTATUS NTAPI Cleanup(PDEVICE_OBJECT DeviceObject, PIRP Irp) {
     PIRP Left;
-    while ((Left = Take(DeviceObject->DeviceExtension, FileOf(Irp))) != NULL) {
+    while ((Left = TakeLeft(DeviceObject->DeviceExtension, FileOf(Irp))) != NULL) {
         Complete(Left, STATUS_CANCELLED);
     }
     return Complete(Irp, STATUS_SUCCESS);
 }
 
 NTSTATUS NTAPI DriverEntry(PDRIVER_OBJECT DriverObject, PUNICODE_STRING RegistryPath) {
-    PEXTENSION Extension = Begin(DriverObject, sizeof(EXTENSION), ReadWrite, ReadWrite, Cleanup);
+    PEXTENSION Extension = BeginReads(DriverObject, sizeof(EXTENSION), ReadWrite, ReadWrite,
+                                      Cleanup);
     UNREFERENCED_PARAMETER(RegistryPath);
     if (Extension == NULL) {
         return STATUS_INSUFFICIENT_RESOURCES;
     }
-    KeInitializeSpinLock(&Extension->Lock);
-    InitializeListHead(&Extension->Reads);
     InitializeListHead(&Extension->Writes);
     return STATUS_SUCCESS;
 }

@@ -9,7 +9,7 @@ typedef struct _EXTENSION {
 } EXTENSION, *PEXTENSION;
 
 DRIVER_INITIALIZE DriverEntry;
-static DRIVER_DISPATCH Read, Write, Cleanup;
+static DRIVER_DISPATCH Read, Write;
 
 /* Whether there was one, which the caller has now. */
 static BOOLEAN TakeStored(PEXTENSION Extension) {
@@ -57,25 +57,16 @@ static PIRP StoreOrTake(PEXTENSION Extension) {
 }
 
 static NTSTATUS NTAPI Write(PDEVICE_OBJECT DeviceObject, PIRP Irp) {
-    PIRP Waiting = StoreOrTake(DeviceObject->DeviceExtension);
-    if (Waiting != NULL) {
-        Complete(Waiting, STATUS_SUCCESS);
-    }
-    return Complete(Irp, STATUS_SUCCESS);
-}
-
-static NTSTATUS NTAPI Cleanup(PDEVICE_OBJECT DeviceObject, PIRP Irp) {
-    CleanUp(DeviceObject->DeviceExtension, FileOf(Irp));
-    return Complete(Irp, STATUS_SUCCESS);
+    return CompleteBoth(StoreOrTake(DeviceObject->DeviceExtension), Irp);
 }
 
 NTSTATUS NTAPI DriverEntry(PDRIVER_OBJECT DriverObject, PUNICODE_STRING RegistryPath) {
-    PEXTENSION Extension = Begin(DriverObject, sizeof(EXTENSION), Read, Write, Cleanup);
+    PEXTENSION Extension = Begin(DriverObject, sizeof(EXTENSION), Read, Write, CleanupWaiting);
     UNREFERENCED_PARAMETER(RegistryPath);
     if (Extension == NULL) {
         return STATUS_INSUFFICIENT_RESOURCES;
     }
     KeInitializeSpinLock(&Extension->DeviceLock);
-    InitializeOwn(&Extension->Reads, InsertUnlessStored, PeekWaiting);
+    InitializeOwn(&Extension->Reads, InsertUnlessStored, PeekWaiting, CompleteWaiting);
     return STATUS_SUCCESS;
 }

@@ -1,6 +1,6 @@
 /* A work item completes what is removed or cancelled, at PASSIVE_LEVEL. There is one, which is
  * queued where the list of these was empty; its routine goes on until it finds none. */
-#include "unusual.h"
+#include "removed.h"
 
 typedef struct _EXTENSION {
     WAITING Reads;
@@ -10,12 +10,12 @@ typedef struct _EXTENSION {
     PIO_WORKITEM Item;
 } EXTENSION, *PEXTENSION;
 
-DRIVER_INITIALIZE DriverEntry;
 static DRIVER_UNLOAD Unload;
-static DRIVER_DISPATCH Read, Write, Cleanup;
+static DRIVER_DISPATCH Write;
 static IO_WORKITEM_ROUTINE CompleteDone;
 
-static VOID Defer(PEXTENSION Extension, PIRP Irp, NTSTATUS Status) {
+static VOID End(PVOID DeviceExtension, PIRP Irp, NTSTATUS Status) {
+    PEXTENSION Extension = DeviceExtension;
     BOOLEAN WasWorking;
     KIRQL Irql;
     Irp->IoStatus.Status = Status;
@@ -52,30 +52,8 @@ static VOID NTAPI CompleteDone(PDEVICE_OBJECT DeviceObject, PVOID Context) {
     }
 }
 
-static VOID NTAPI CompleteCanceled(PIO_CSQ Csq, PIRP Irp) {
-    Defer(CONTAINING_RECORD(Csq, EXTENSION, Reads.Queue), Irp, STATUS_CANCELLED);
-}
-
-static NTSTATUS NTAPI Read(PDEVICE_OBJECT DeviceObject, PIRP Irp) {
-    return Wait(DeviceObject->DeviceExtension, Irp);
-}
-
 static NTSTATUS NTAPI Write(PDEVICE_OBJECT DeviceObject, PIRP Irp) {
-    PEXTENSION Extension = DeviceObject->DeviceExtension;
-    PIRP Waiting = IoCsqRemoveNextIrp(&Extension->Reads.Queue, NULL);
-    if (Waiting != NULL) {
-        Defer(Extension, Waiting, STATUS_SUCCESS);
-    }
-    return Complete(Irp, STATUS_SUCCESS);
-}
-
-static NTSTATUS NTAPI Cleanup(PDEVICE_OBJECT DeviceObject, PIRP Irp) {
-    PEXTENSION Extension = DeviceObject->DeviceExtension;
-    PIRP Left;
-    CloseFile(&Extension->Reads, FileOf(Irp));
-    while ((Left = IoCsqRemoveNextIrp(&Extension->Reads.Queue, FileOf(Irp))) != NULL) {
-        Defer(Extension, Left, STATUS_CANCELLED);
-    }
+    EndOldest(DeviceObject->DeviceExtension);
     return Complete(Irp, STATUS_SUCCESS);
 }
 
@@ -87,7 +65,7 @@ static VOID NTAPI Unload(PDRIVER_OBJECT DriverObject) {
 }
 
 NTSTATUS NTAPI DriverEntry(PDRIVER_OBJECT DriverObject, PUNICODE_STRING RegistryPath) {
-    PEXTENSION Extension = Begin(DriverObject, sizeof(EXTENSION), Read, Write, Cleanup);
+    PEXTENSION Extension = Begin(DriverObject, sizeof(EXTENSION), QueueRead, Write, EndAtCleanup);
     UNREFERENCED_PARAMETER(RegistryPath);
     if (Extension == NULL) {
         return STATUS_INSUFFICIENT_RESOURCES;
@@ -100,6 +78,6 @@ NTSTATUS NTAPI DriverEntry(PDRIVER_OBJECT DriverObject, PUNICODE_STRING Registry
     }
     KeInitializeSpinLock(&Extension->Lock);
     InitializeListHead(&Extension->Done);
-    InitializeWaiting(&Extension->Reads, CompleteCanceled);
+    InitializeWaiting(&Extension->Reads, EndCanceled);
     return STATUS_SUCCESS;
 }
