@@ -2,29 +2,24 @@
  * that a driver manages itself. A write completes the oldest. */
 #include "device.h"
 
-typedef struct _EXTENSION {
-    KSPIN_LOCK Lock;
-    LIST_ENTRY Reads; /* under Lock, as FsContext is: not null once the file object is cleaned up */
-} EXTENSION, *PEXTENSION;
-
 DRIVER_INITIALIZE DriverEntry;
-static DRIVER_UNLOAD Unload;
 static DRIVER_DISPATCH Read, Write, Cleanup;
 static DRIVER_CANCEL CancelRead;
+static TAKE Take;
 
 static VOID NTAPI CancelRead(PDEVICE_OBJECT DeviceObject, PIRP Irp) {
-    PEXTENSION Extension = DeviceObject->DeviceExtension;
+    PREADS Reads = DeviceObject->DeviceExtension;
     KIRQL Irql;
 #if WRONG == 6
     IoReleaseCancelSpinLock(PASSIVE_LEVEL);
 #elif WRONG != 5
     IoReleaseCancelSpinLock(Irp->CancelIrql);
 #endif
-    KeAcquireSpinLock(&Extension->Lock, &Irql);
+    KeAcquireSpinLock(&Reads->Lock, &Irql);
 #if WRONG != 4
     RemoveEntryList(&Irp->Tail.Overlay.ListEntry);
 #endif
-    KeReleaseSpinLock(&Extension->Lock, Irql);
+    KeReleaseSpinLock(&Reads->Lock, Irql);
 #if WRONG != 8
     Complete(Irp, STATUS_CANCELLED);
 #endif
@@ -32,7 +27,7 @@ static VOID NTAPI CancelRead(PDEVICE_OBJECT DeviceObject, PIRP Irp) {
 
 /* Whether the read waits. If not, a cancel or the cleanup of its file object came first, and the
  * caller completes it. The lock is held. */
-static BOOLEAN Queue(PEXTENSION Extension, PIRP Irp) {
+static BOOLEAN Queue(PREADS Reads, PIRP Irp) {
     IoMarkIrpPending(Irp);
     if (WRONG != 10 && FileOf(Irp)->FsContext != NULL) {
         return FALSE;
@@ -42,7 +37,7 @@ static BOOLEAN Queue(PEXTENSION Extension, PIRP Irp) {
         return FALSE;
     }
 #endif
-    InsertTailList(&Extension->Reads, &Irp->Tail.Overlay.ListEntry);
+    InsertTailList(&Reads->Irps, &Irp->Tail.Overlay.ListEntry);
     IoSetCancelRoutine(Irp, CancelRead);
 #if WRONG != 2 && WRONG != 3
     if (Irp->Cancel && IoSetCancelRoutine(Irp, NULL) != NULL) {
@@ -54,12 +49,12 @@ static BOOLEAN Queue(PEXTENSION Extension, PIRP Irp) {
 }
 
 static NTSTATUS NTAPI Read(PDEVICE_OBJECT DeviceObject, PIRP Irp) {
-    PEXTENSION Extension = DeviceObject->DeviceExtension;
+    PREADS Reads = DeviceObject->DeviceExtension;
     KIRQL Irql;
     BOOLEAN Waits;
-    KeAcquireSpinLock(&Extension->Lock, &Irql);
-    Waits = Queue(Extension, Irp);
-    KeReleaseSpinLock(&Extension->Lock, Irql);
+    KeAcquireSpinLock(&Reads->Lock, &Irql);
+    Waits = Queue(Reads, Irp);
+    KeReleaseSpinLock(&Reads->Lock, Irql);
     if (!Waits) {
         Complete(Irp, STATUS_CANCELLED);
     }
@@ -84,25 +79,8 @@ static BOOLEAN Take(PIRP Irp, PFILE_OBJECT File) {
 #endif
 }
 
-/* The oldest read that no cancel has, of this file object or, if it is null, of any. */
-static PIRP Dequeue(PEXTENSION Extension, PFILE_OBJECT File) {
-    PIRP Found = NULL;
-    PLIST_ENTRY Entry, Next;
-    KIRQL Irql;
-    KeAcquireSpinLock(&Extension->Lock, &Irql);
-    for (Entry = Extension->Reads.Flink; Entry != &Extension->Reads && !Found; Entry = Next) {
-        PIRP Irp = CONTAINING_RECORD(Entry, IRP, Tail.Overlay.ListEntry);
-        Next = Entry->Flink;
-        if ((File == NULL || FileOf(Irp) == File) && Take(Irp, File)) {
-            Found = Irp;
-        }
-    }
-    KeReleaseSpinLock(&Extension->Lock, Irql);
-    return Found;
-}
-
 static NTSTATUS NTAPI Write(PDEVICE_OBJECT DeviceObject, PIRP Irp) {
-    PIRP Oldest = Dequeue(DeviceObject->DeviceExtension, NULL);
+    PIRP Oldest = Dequeue(DeviceObject->DeviceExtension, NULL, Take);
     if (Oldest != NULL) {
         Complete(Oldest, STATUS_SUCCESS);
 #if WRONG == 11
@@ -113,31 +91,21 @@ static NTSTATUS NTAPI Write(PDEVICE_OBJECT DeviceObject, PIRP Irp) {
 }
 
 static NTSTATUS NTAPI Cleanup(PDEVICE_OBJECT DeviceObject, PIRP Irp) {
-    PEXTENSION Extension = DeviceObject->DeviceExtension;
-    PFILE_OBJECT File = FileOf(Irp);
+    PREADS Reads = DeviceObject->DeviceExtension;
     PIRP Left;
-    KIRQL Irql;
-    KeAcquireSpinLock(&Extension->Lock, &Irql);
-    File->FsContext = File; /* a read that comes late doesn't wait any more */
-    KeReleaseSpinLock(&Extension->Lock, Irql);
-    while (WRONG != 9 && (Left = Dequeue(Extension, File)) != NULL) {
+    MarkClosed(&Reads->Lock, FileOf(Irp));
+    while (WRONG != 9 && (Left = Dequeue(Reads, FileOf(Irp), Take)) != NULL) {
         Complete(Left, STATUS_CANCELLED);
     }
     return Complete(Irp, STATUS_SUCCESS);
 }
 
-static VOID NTAPI Unload(PDRIVER_OBJECT DriverObject) {
-    IoDeleteDevice(DriverObject->DeviceObject);
-}
-
 NTSTATUS NTAPI DriverEntry(PDRIVER_OBJECT DriverObject, PUNICODE_STRING RegistryPath) {
-    NTSTATUS Status = MakeDevice(DriverObject, sizeof(EXTENSION));
+    PREADS Reads = Begin(DriverObject, sizeof(READS), Read, Write, Cleanup, UnloadDevice);
     UNREFERENCED_PARAMETER(RegistryPath);
-    if (NT_SUCCESS(Status)) {
-        PEXTENSION Extension = DriverObject->DeviceObject->DeviceExtension;
-        KeInitializeSpinLock(&Extension->Lock);
-        InitializeListHead(&Extension->Reads);
-        SetDispatch(DriverObject, Read, Write, Cleanup, Unload);
+    if (Reads == NULL) {
+        return STATUS_INSUFFICIENT_RESOURCES;
     }
-    return Status;
+    InitializeReads(Reads);
+    return STATUS_SUCCESS;
 }

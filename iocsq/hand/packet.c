@@ -1,18 +1,6 @@
 /* StartIo as the I/O manager has it: IoStartPacket with a cancel routine, and a DPC that completes
  * the request at which the device works, and has the next one started. */
-#include "device.h"
-
-typedef struct _EXTENSION {
-    KTIMER Work;
-    KDPC Done;
-} EXTENSION, *PEXTENSION;
-
-DRIVER_INITIALIZE DriverEntry;
-static DRIVER_UNLOAD Unload;
-static DRIVER_DISPATCH ReadWrite;
-static DRIVER_CANCEL CancelPacket;
-static DRIVER_STARTIO StartIo;
-static KDEFERRED_ROUTINE WorkDone;
+#include "packet.h"
 
 static VOID StartNext(PDEVICE_OBJECT DeviceObject) {
     KIRQL Irql;
@@ -38,8 +26,6 @@ static VOID NTAPI CancelPacket(PDEVICE_OBJECT DeviceObject, PIRP Irp) {
 }
 
 static VOID NTAPI StartIo(PDEVICE_OBJECT DeviceObject, PIRP Irp) {
-    PEXTENSION Extension = DeviceObject->DeviceExtension;
-    LARGE_INTEGER Soon;
     BOOLEAN Mine = TRUE;
 #if WRONG != 2
     KIRQL Irql;
@@ -50,41 +36,12 @@ static VOID NTAPI StartIo(PDEVICE_OBJECT DeviceObject, PIRP Irp) {
     UNREFERENCED_PARAMETER(Irp);
 #endif
     if (Mine) { /* otherwise its cancel routine has it, and has the next one started */
-        Soon.QuadPart = -500; /* 50 microseconds */
-        KeSetTimer(&Extension->Work, Soon, &Extension->Done);
+        StartWork(DeviceObject->DeviceExtension);
     }
-}
-
-static VOID NTAPI WorkDone(PKDPC Dpc, PVOID Context, PVOID First, PVOID Second) {
-    PDEVICE_OBJECT DeviceObject = Context;
-    PIRP Irp = DeviceObject->CurrentIrp;
-    UNREFERENCED_PARAMETER(Dpc);
-    UNREFERENCED_PARAMETER(First);
-    UNREFERENCED_PARAMETER(Second);
-    IoStartNextPacket(DeviceObject, TRUE);
-    Complete(Irp, STATUS_SUCCESS);
 }
 
 static NTSTATUS NTAPI ReadWrite(PDEVICE_OBJECT DeviceObject, PIRP Irp) {
     IoMarkIrpPending(Irp);
     IoStartPacket(DeviceObject, Irp, NULL, CancelPacket);
     return STATUS_PENDING;
-}
-
-static VOID NTAPI Unload(PDRIVER_OBJECT DriverObject) {
-    KeFlushQueuedDpcs();
-    IoDeleteDevice(DriverObject->DeviceObject);
-}
-
-NTSTATUS NTAPI DriverEntry(PDRIVER_OBJECT DriverObject, PUNICODE_STRING RegistryPath) {
-    NTSTATUS Status = MakeDevice(DriverObject, sizeof(EXTENSION));
-    UNREFERENCED_PARAMETER(RegistryPath);
-    if (NT_SUCCESS(Status)) {
-        PEXTENSION Extension = DriverObject->DeviceObject->DeviceExtension;
-        KeInitializeTimer(&Extension->Work);
-        KeInitializeDpc(&Extension->Done, WorkDone, DriverObject->DeviceObject);
-        DriverObject->DriverStartIo = StartIo;
-        SetDispatch(DriverObject, ReadWrite, ReadWrite, Succeed, Unload);
-    }
-    return Status;
 }

@@ -86,22 +86,14 @@ static PIRP Empty(PEXTENSION Extension, PFILE_OBJECT File) {
 }
 
 static NTSTATUS NTAPI Write(PDEVICE_OBJECT DeviceObject, PIRP Irp) {
-    PIRP Waiting = Empty(DeviceObject->DeviceExtension, NULL);
-    if (Waiting != NULL) {
-        Complete(Waiting, STATUS_SUCCESS);
-    }
-    return Complete(Irp, STATUS_SUCCESS);
+    return CompleteBoth(Empty(DeviceObject->DeviceExtension, NULL), Irp);
 }
 
 static NTSTATUS NTAPI Cleanup(PDEVICE_OBJECT DeviceObject, PIRP Irp) {
     PEXTENSION Extension = DeviceObject->DeviceExtension;
-    PFILE_OBJECT File = FileOf(Irp);
     PIRP Left;
-    KIRQL Irql;
-    KeAcquireSpinLock(&Extension->Lock, &Irql);
-    File->FsContext = File; /* a read that comes late is refused */
-    KeReleaseSpinLock(&Extension->Lock, Irql);
-    Left = Empty(Extension, File);
+    MarkClosed(&Extension->Lock, FileOf(Irp));
+    Left = Empty(Extension, FileOf(Irp));
     if (Left != NULL) {
         Complete(Left, STATUS_CANCELLED);
     }
@@ -116,14 +108,12 @@ static VOID NTAPI Unload(PDRIVER_OBJECT DriverObject) {
 }
 
 NTSTATUS NTAPI DriverEntry(PDRIVER_OBJECT DriverObject, PUNICODE_STRING RegistryPath) {
-    NTSTATUS Status = MakeDevice(DriverObject, sizeof(EXTENSION));
+    PEXTENSION Extension = Begin(DriverObject, sizeof(EXTENSION), Read, Write, Cleanup, Unload);
     UNREFERENCED_PARAMETER(RegistryPath);
-    if (NT_SUCCESS(Status)) {
-        PEXTENSION Extension = DriverObject->DeviceObject->DeviceExtension;
-        KeInitializeSpinLock(&Extension->Lock);
-        KeInitializeDpc(&Extension->Dpc, CompleteCancelled, Extension);
-        Extension->Current = Extension->Cancelled = NULL;
-        SetDispatch(DriverObject, Read, Write, Cleanup, Unload);
+    if (Extension == NULL) {
+        return STATUS_INSUFFICIENT_RESOURCES;
     }
-    return Status;
+    KeInitializeSpinLock(&Extension->Lock);
+    KeInitializeDpc(&Extension->Dpc, CompleteCancelled, Extension);
+    return STATUS_SUCCESS;
 }

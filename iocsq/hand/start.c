@@ -6,27 +6,20 @@
 typedef struct _EXTENSION {
     LIST_ENTRY Waiting; /* under the cancel spin lock, with Current, as FsContext is */
     PIRP Current;
-    KTIMER Work;
-    KDPC Done;
+    WORK Work;
 } EXTENSION, *PEXTENSION;
 
 DRIVER_INITIALIZE DriverEntry;
-static DRIVER_UNLOAD Unload;
 static DRIVER_DISPATCH ReadWrite, Cleanup;
 static DRIVER_CANCEL CancelWaiting;
 static KDEFERRED_ROUTINE WorkDone;
+static TAKE Take;
 
 static VOID NTAPI CancelWaiting(PDEVICE_OBJECT DeviceObject, PIRP Irp) {
     UNREFERENCED_PARAMETER(DeviceObject);
     RemoveEntryList(&Irp->Tail.Overlay.ListEntry);
     IoReleaseCancelSpinLock(Irp->CancelIrql);
     Complete(Irp, STATUS_CANCELLED);
-}
-
-static VOID StartIo(PEXTENSION Extension) {
-    LARGE_INTEGER Soon;
-    Soon.QuadPart = -500; /* 50 microseconds */
-    KeSetTimer(&Extension->Work, Soon, &Extension->Done);
 }
 
 /* The first that waits becomes the current one, or none. The cancel spin lock is held. */
@@ -61,7 +54,7 @@ static VOID NTAPI WorkDone(PKDPC Dpc, PVOID Context, PVOID First, PVOID Second) 
 #endif
     Complete(Irp, STATUS_SUCCESS);
     if (More) {
-        StartIo(Extension);
+        StartWork(&Extension->Work);
     }
 }
 
@@ -92,34 +85,32 @@ static NTSTATUS NTAPI ReadWrite(PDEVICE_OBJECT DeviceObject, PIRP Irp) {
         return Complete(Irp, Status);
     }
     if (Status == STATUS_SUCCESS) {
-        StartIo(Extension);
+        StartWork(&Extension->Work);
     }
     return STATUS_PENDING;
 }
 
+static BOOLEAN Take(PIRP Irp, PFILE_OBJECT File) {
+    UNREFERENCED_PARAMETER(File);
+    RemoveEntryList(&Irp->Tail.Overlay.ListEntry);
+    IoSetCancelRoutine(Irp, NULL);
+    return TRUE;
+}
+
 /* One of this file object that waits; null: there is none. */
-static PIRP Dequeue(PEXTENSION Extension, PFILE_OBJECT File) {
-    PLIST_ENTRY Entry;
-    PIRP Found = NULL;
+static PIRP TakeLeft(PEXTENSION Extension, PFILE_OBJECT File) {
+    PIRP Irp;
     KIRQL Irql;
     IoAcquireCancelSpinLock(&Irql);
     File->FsContext = File; /* a request that comes late doesn't wait any more */
-    for (Entry = Extension->Waiting.Flink; Entry != &Extension->Waiting && Found == NULL;
-         Entry = Entry->Flink) {
-        PIRP Irp = CONTAINING_RECORD(Entry, IRP, Tail.Overlay.ListEntry);
-        Found = FileOf(Irp) == File ? Irp : NULL;
-    }
-    if (Found != NULL) {
-        RemoveEntryList(&Found->Tail.Overlay.ListEntry);
-        IoSetCancelRoutine(Found, NULL);
-    }
+    Irp = TakeFirst(&Extension->Waiting, File, Take);
     IoReleaseCancelSpinLock(Irql);
-    return Found;
+    return Irp;
 }
 
 static NTSTATUS NTAPI Cleanup(PDEVICE_OBJECT DeviceObject, PIRP Irp) {
     PIRP Left;
-    while ((Left = Dequeue(DeviceObject->DeviceExtension, FileOf(Irp))) != NULL) {
+    while ((Left = TakeLeft(DeviceObject->DeviceExtension, FileOf(Irp))) != NULL) {
         Complete(Left, STATUS_CANCELLED);
 #if WRONG == 3
         break; /* as if no more than one could wait */
@@ -128,21 +119,14 @@ static NTSTATUS NTAPI Cleanup(PDEVICE_OBJECT DeviceObject, PIRP Irp) {
     return Complete(Irp, STATUS_SUCCESS);
 }
 
-static VOID NTAPI Unload(PDRIVER_OBJECT DriverObject) {
-    KeFlushQueuedDpcs();
-    IoDeleteDevice(DriverObject->DeviceObject);
-}
-
 NTSTATUS NTAPI DriverEntry(PDRIVER_OBJECT DriverObject, PUNICODE_STRING RegistryPath) {
-    NTSTATUS Status = MakeDevice(DriverObject, sizeof(EXTENSION));
+    PEXTENSION Extension = Begin(DriverObject, sizeof(EXTENSION), ReadWrite, ReadWrite, Cleanup,
+                                 UnloadAfterDpcs);
     UNREFERENCED_PARAMETER(RegistryPath);
-    if (NT_SUCCESS(Status)) {
-        PEXTENSION Extension = DriverObject->DeviceObject->DeviceExtension;
-        InitializeListHead(&Extension->Waiting);
-        Extension->Current = NULL;
-        KeInitializeTimer(&Extension->Work);
-        KeInitializeDpc(&Extension->Done, WorkDone, Extension);
-        SetDispatch(DriverObject, ReadWrite, ReadWrite, Cleanup, Unload);
+    if (Extension == NULL) {
+        return STATUS_INSUFFICIENT_RESOURCES;
     }
-    return Status;
+    InitializeListHead(&Extension->Waiting);
+    InitializeWork(&Extension->Work, WorkDone, Extension);
+    return STATUS_SUCCESS;
 }

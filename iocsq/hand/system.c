@@ -8,9 +8,9 @@ typedef struct _EXTENSION {
 } EXTENSION, *PEXTENSION;
 
 DRIVER_INITIALIZE DriverEntry;
-static DRIVER_UNLOAD Unload;
 static DRIVER_DISPATCH Read, Write, Cleanup;
 static DRIVER_CANCEL CancelRead;
+static TAKE Take;
 
 /* IoCancelIrp comes with the cancel spin lock. */
 static VOID NTAPI CancelRead(PDEVICE_OBJECT DeviceObject, PIRP Irp) {
@@ -49,36 +49,29 @@ static NTSTATUS NTAPI Read(PDEVICE_OBJECT DeviceObject, PIRP Irp) {
     return STATUS_PENDING;
 }
 
-/* The oldest read, of this file object or, if it is null, of any. While the cancel spin lock is
- * held, what is in the list has its routine: so nobody looks at what IoSetCancelRoutine returns. */
-static PIRP Dequeue(PEXTENSION Extension, PFILE_OBJECT File) {
-    PLIST_ENTRY Entry;
+/* While the cancel spin lock is held, what is in the list has its routine: so nobody looks at what
+ * IoSetCancelRoutine returns. */
+static BOOLEAN Take(PIRP Irp, PFILE_OBJECT File) {
+    UNREFERENCED_PARAMETER(File);
+    RemoveEntryList(&Irp->Tail.Overlay.ListEntry);
+    if (WRONG != 4) {
+        IoSetCancelRoutine(Irp, NULL);
+    }
+    return TRUE;
+}
+
+/* The oldest read, of this file object or, if it is null, of any. */
+static PIRP TakeOldest(PEXTENSION Extension, PFILE_OBJECT File) {
+    PIRP Irp;
     KIRQL Irql;
-    PIRP Found = NULL;
     IoAcquireCancelSpinLock(&Irql);
-    for (Entry = Extension->Reads.Flink; Entry != &Extension->Reads && Found == NULL;
-         Entry = Entry->Flink) {
-        PIRP Irp = CONTAINING_RECORD(Entry, IRP, Tail.Overlay.ListEntry);
-        if (File == NULL || FileOf(Irp) == File) {
-            Found = Irp;
-        }
-    }
-    if (Found != NULL) {
-        RemoveEntryList(&Found->Tail.Overlay.ListEntry);
-        if (WRONG != 4) {
-            IoSetCancelRoutine(Found, NULL);
-        }
-    }
+    Irp = TakeFirst(&Extension->Reads, File, Take);
     IoReleaseCancelSpinLock(Irql);
-    return Found;
+    return Irp;
 }
 
 static NTSTATUS NTAPI Write(PDEVICE_OBJECT DeviceObject, PIRP Irp) {
-    PIRP Oldest = Dequeue(DeviceObject->DeviceExtension, NULL);
-    if (Oldest != NULL) {
-        Complete(Oldest, STATUS_SUCCESS);
-    }
-    return Complete(Irp, STATUS_SUCCESS);
+    return CompleteBoth(TakeOldest(DeviceObject->DeviceExtension, NULL), Irp);
 }
 
 static NTSTATUS NTAPI Cleanup(PDEVICE_OBJECT DeviceObject, PIRP Irp) {
@@ -88,23 +81,19 @@ static NTSTATUS NTAPI Cleanup(PDEVICE_OBJECT DeviceObject, PIRP Irp) {
     IoAcquireCancelSpinLock(&Irql);
     File->FsContext = File; /* a read that comes late doesn't wait any more */
     IoReleaseCancelSpinLock(Irql);
-    while ((Left = Dequeue(DeviceObject->DeviceExtension, File)) != NULL) {
+    while ((Left = TakeOldest(DeviceObject->DeviceExtension, File)) != NULL) {
         Complete(Left, STATUS_CANCELLED);
     }
     return Complete(Irp, STATUS_SUCCESS);
 }
 
-static VOID NTAPI Unload(PDRIVER_OBJECT DriverObject) {
-    IoDeleteDevice(DriverObject->DeviceObject);
-}
-
 NTSTATUS NTAPI DriverEntry(PDRIVER_OBJECT DriverObject, PUNICODE_STRING RegistryPath) {
-    NTSTATUS Status = MakeDevice(DriverObject, sizeof(EXTENSION));
+    PEXTENSION Extension = Begin(DriverObject, sizeof(EXTENSION), Read, Write, Cleanup,
+                                 UnloadDevice);
     UNREFERENCED_PARAMETER(RegistryPath);
-    if (NT_SUCCESS(Status)) {
-        PEXTENSION Extension = DriverObject->DeviceObject->DeviceExtension;
-        InitializeListHead(&Extension->Reads);
-        SetDispatch(DriverObject, Read, Write, Cleanup, Unload);
+    if (Extension == NULL) {
+        return STATUS_INSUFFICIENT_RESOURCES;
     }
-    return Status;
+    InitializeListHead(&Extension->Reads);
+    return STATUS_SUCCESS;
 }

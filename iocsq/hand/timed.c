@@ -3,9 +3,8 @@
 #include "device.h"
 
 typedef struct _EXTENSION {
-    KSPIN_LOCK Lock;
-    LIST_ENTRY Reads; /* under Lock, as FsContext is */
-    KTIMER Timer;     /* set while there are some */
+    READS Reads;
+    KTIMER Timer; /* set while there are some */
     KDPC TimeOver;
 } EXTENSION, *PEXTENSION;
 
@@ -14,37 +13,26 @@ static DRIVER_UNLOAD Unload;
 static DRIVER_DISPATCH Read, Cleanup;
 static DRIVER_CANCEL CancelRead;
 static KDEFERRED_ROUTINE EndReads;
+static TAKE Take;
 
 static VOID NTAPI CancelRead(PDEVICE_OBJECT DeviceObject, PIRP Irp) {
     PEXTENSION Extension = DeviceObject->DeviceExtension;
     KIRQL Irql = Irp->CancelIrql;
-    KeAcquireSpinLockAtDpcLevel(&Extension->Lock);
+    KeAcquireSpinLockAtDpcLevel(&Extension->Reads.Lock);
     IoReleaseCancelSpinLock(DISPATCH_LEVEL);
     RemoveEntryList(&Irp->Tail.Overlay.ListEntry);
-    KeReleaseSpinLock(&Extension->Lock, Irql);
+    KeReleaseSpinLock(&Extension->Reads.Lock, Irql);
     Complete(Irp, STATUS_CANCELLED);
 #if WRONG == 2
     KeCancelTimer(&Extension->Timer); /* as if no other read could wait */
 #endif
 }
 
-/* The first read of this file object, or of any if it is null, that no cancel has. */
-static PIRP Dequeue(PEXTENSION Extension, PFILE_OBJECT File) {
-    PIRP Found = NULL;
-    PLIST_ENTRY Entry, Next;
-    KIRQL Irql;
-    KeAcquireSpinLock(&Extension->Lock, &Irql);
-    for (Entry = Extension->Reads.Flink; Entry != &Extension->Reads && !Found; Entry = Next) {
-        PIRP Irp = CONTAINING_RECORD(Entry, IRP, Tail.Overlay.ListEntry);
-        Next = Entry->Flink;
-        if (File == NULL || FileOf(Irp) == File) {
-            RemoveEntryList(Entry);
-            InitializeListHead(Entry);
-            Found = IoSetCancelRoutine(Irp, NULL) != NULL || (WRONG == 1 && !File) ? Irp : NULL;
-        }
-    }
-    KeReleaseSpinLock(&Extension->Lock, Irql);
-    return Found;
+static BOOLEAN Take(PIRP Irp, PFILE_OBJECT File) {
+    PLIST_ENTRY Entry = &Irp->Tail.Overlay.ListEntry;
+    RemoveEntryList(Entry);
+    InitializeListHead(Entry); /* its cancel routine may be about to unlink it from itself */
+    return IoSetCancelRoutine(Irp, NULL) != NULL || (WRONG == 1 && File == NULL);
 }
 
 static VOID NTAPI EndReads(PKDPC Dpc, PVOID Context, PVOID First, PVOID Second) {
@@ -53,7 +41,7 @@ static VOID NTAPI EndReads(PKDPC Dpc, PVOID Context, PVOID First, PVOID Second) 
     UNREFERENCED_PARAMETER(Dpc);
     UNREFERENCED_PARAMETER(First);
     UNREFERENCED_PARAMETER(Second);
-    while ((Irp = Dequeue(Extension, NULL)) != NULL) {
+    while ((Irp = Dequeue(&Extension->Reads, NULL, Take)) != NULL) {
         Complete(Irp, STATUS_IO_TIMEOUT);
     }
 }
@@ -69,7 +57,7 @@ static BOOLEAN Queue(PEXTENSION Extension, PIRP Irp) {
     if (FileOf(Irp)->FsContext != NULL) {
         return FALSE;
     }
-    InsertTailList(&Extension->Reads, &Irp->Tail.Overlay.ListEntry);
+    InsertTailList(&Extension->Reads.Irps, &Irp->Tail.Overlay.ListEntry);
     IoSetCancelRoutine(Irp, CancelRead);
     if (Irp->Cancel && IoSetCancelRoutine(Irp, NULL) != NULL) {
         RemoveEntryList(&Irp->Tail.Overlay.ListEntry);
@@ -83,12 +71,12 @@ static NTSTATUS NTAPI Read(PDEVICE_OBJECT DeviceObject, PIRP Irp) {
     KIRQL Irql;
     BOOLEAN Waits;
     IoMarkIrpPending(Irp);
-    KeAcquireSpinLock(&Extension->Lock, &Irql);
+    KeAcquireSpinLock(&Extension->Reads.Lock, &Irql);
     Waits = Queue(Extension, Irp);
     if (Waits) {
         SetTimer(Extension);
     }
-    KeReleaseSpinLock(&Extension->Lock, Irql);
+    KeReleaseSpinLock(&Extension->Reads.Lock, Irql);
     if (!Waits) {
         Complete(Irp, STATUS_CANCELLED);
     }
@@ -96,17 +84,7 @@ static NTSTATUS NTAPI Read(PDEVICE_OBJECT DeviceObject, PIRP Irp) {
 }
 
 static NTSTATUS NTAPI Cleanup(PDEVICE_OBJECT DeviceObject, PIRP Irp) {
-    PEXTENSION Extension = DeviceObject->DeviceExtension;
-    PFILE_OBJECT File = FileOf(Irp);
-    PIRP Left;
-    KIRQL Irql;
-    KeAcquireSpinLock(&Extension->Lock, &Irql);
-    File->FsContext = File; /* a read that comes late doesn't wait any more */
-    KeReleaseSpinLock(&Extension->Lock, Irql);
-    while ((Left = Dequeue(Extension, File)) != NULL) {
-        Complete(Left, STATUS_CANCELLED);
-    }
-    return Complete(Irp, STATUS_SUCCESS);
+    return CleanUp(DeviceObject->DeviceExtension, Irp, Take);
 }
 
 static VOID NTAPI Unload(PDRIVER_OBJECT DriverObject) {
@@ -117,15 +95,13 @@ static VOID NTAPI Unload(PDRIVER_OBJECT DriverObject) {
 }
 
 NTSTATUS NTAPI DriverEntry(PDRIVER_OBJECT DriverObject, PUNICODE_STRING RegistryPath) {
-    NTSTATUS Status = MakeDevice(DriverObject, sizeof(EXTENSION));
+    PEXTENSION Extension = Begin(DriverObject, sizeof(EXTENSION), Read, Succeed, Cleanup, Unload);
     UNREFERENCED_PARAMETER(RegistryPath);
-    if (NT_SUCCESS(Status)) {
-        PEXTENSION Extension = DriverObject->DeviceObject->DeviceExtension;
-        KeInitializeSpinLock(&Extension->Lock);
-        InitializeListHead(&Extension->Reads);
-        KeInitializeTimer(&Extension->Timer);
-        KeInitializeDpc(&Extension->TimeOver, EndReads, Extension);
-        SetDispatch(DriverObject, Read, Succeed, Cleanup, Unload);
+    if (Extension == NULL) {
+        return STATUS_INSUFFICIENT_RESOURCES;
     }
-    return Status;
+    InitializeReads(&Extension->Reads);
+    KeInitializeTimer(&Extension->Timer);
+    KeInitializeDpc(&Extension->TimeOver, EndReads, Extension);
+    return STATUS_SUCCESS;
 }

@@ -4,9 +4,8 @@
 #include "device.h"
 
 typedef struct _EXTENSION {
-    KSPIN_LOCK Lock;
-    LIST_ENTRY Waiting; /* under Lock, as FsContext is */
-    KSEMAPHORE Count;   /* one for each request that was put into the list */
+    READS Waiting;
+    KSEMAPHORE Count; /* one for each request that was put into the list */
     PETHREAD Thread;
     BOOLEAN Stops;
     ULONG Turns; /* of the thread */
@@ -17,17 +16,18 @@ static DRIVER_UNLOAD Unload;
 static DRIVER_DISPATCH ReadWrite, Cleanup;
 static DRIVER_CANCEL CancelWaiting;
 static KSTART_ROUTINE Serve;
+static TAKE Take;
 
 static VOID NTAPI CancelWaiting(PDEVICE_OBJECT DeviceObject, PIRP Irp) {
     PEXTENSION Extension = DeviceObject->DeviceExtension;
     KIRQL Irql;
     IoReleaseCancelSpinLock(Irp->CancelIrql);
-    KeAcquireSpinLock(&Extension->Lock, &Irql);
+    KeAcquireSpinLock(&Extension->Waiting.Lock, &Irql);
     RemoveEntryList(&Irp->Tail.Overlay.ListEntry);
 #if WRONG == 4
-    KeReleaseSpinLockFromDpcLevel(&Extension->Lock);
+    KeReleaseSpinLockFromDpcLevel(&Extension->Waiting.Lock);
 #else
-    KeReleaseSpinLock(&Extension->Lock, Irql);
+    KeReleaseSpinLock(&Extension->Waiting.Lock, Irql);
 #endif
     Complete(Irp, STATUS_CANCELLED);
 }
@@ -46,34 +46,23 @@ static BOOLEAN MakeCancelable(PIRP Irp, BOOLEAN Again) {
     return TRUE;
 }
 
-/* The first request of this file object, or of any if it is null, that no cancel has. */
-static PIRP Dequeue(PEXTENSION Extension, PFILE_OBJECT File) {
-    PIRP Found = NULL;
-    PLIST_ENTRY Entry, Next;
-    KIRQL Irql;
-    KeAcquireSpinLock(&Extension->Lock, &Irql);
-    for (Entry = Extension->Waiting.Flink; Entry != &Extension->Waiting && !Found; Entry = Next) {
-        PIRP Irp = CONTAINING_RECORD(Entry, IRP, Tail.Overlay.ListEntry);
-        Next = Entry->Flink;
-        if (File == NULL || FileOf(Irp) == File) {
-            RemoveEntryList(Entry);
-            InitializeListHead(Entry);
-            Found = IoSetCancelRoutine(Irp, NULL) != NULL || WRONG == 2 ? Irp : NULL;
-        }
-    }
-    KeReleaseSpinLock(&Extension->Lock, Irql);
-    return Found;
+static BOOLEAN Take(PIRP Irp, PFILE_OBJECT File) {
+    PLIST_ENTRY Entry = &Irp->Tail.Overlay.ListEntry;
+    UNREFERENCED_PARAMETER(File);
+    RemoveEntryList(Entry);
+    InitializeListHead(Entry); /* its cancel routine may be about to unlink it from itself */
+    return IoSetCancelRoutine(Irp, NULL) != NULL || WRONG == 2;
 }
 
 static VOID PutBack(PEXTENSION Extension, PIRP Irp) {
     BOOLEAN Waits = FALSE;
     KIRQL Irql;
-    KeAcquireSpinLock(&Extension->Lock, &Irql);
+    KeAcquireSpinLock(&Extension->Waiting.Lock, &Irql);
     if (FileOf(Irp)->FsContext == NULL) {
-        InsertHeadList(&Extension->Waiting, &Irp->Tail.Overlay.ListEntry);
+        InsertHeadList(&Extension->Waiting.Irps, &Irp->Tail.Overlay.ListEntry);
         Waits = MakeCancelable(Irp, TRUE);
     }
-    KeReleaseSpinLock(&Extension->Lock, Irql);
+    KeReleaseSpinLock(&Extension->Waiting.Lock, Irql);
     if (!Waits) {
         Complete(Irp, STATUS_CANCELLED);
     } else if (WRONG != 1) {
@@ -89,7 +78,7 @@ static VOID NTAPI Serve(PVOID Context) {
         if (Extension->Stops) {
             break;
         }
-        Irp = Dequeue(Extension, NULL);
+        Irp = Dequeue(&Extension->Waiting, NULL, Take);
         if (Irp != NULL && ++Extension->Turns % 2 == 0) {
             PutBack(Extension, Irp);
         } else if (Irp != NULL) {
@@ -104,12 +93,12 @@ static NTSTATUS NTAPI ReadWrite(PDEVICE_OBJECT DeviceObject, PIRP Irp) {
     BOOLEAN Waits = FALSE;
     KIRQL Irql;
     IoMarkIrpPending(Irp);
-    KeAcquireSpinLock(&Extension->Lock, &Irql);
+    KeAcquireSpinLock(&Extension->Waiting.Lock, &Irql);
     if (FileOf(Irp)->FsContext == NULL) {
-        InsertTailList(&Extension->Waiting, &Irp->Tail.Overlay.ListEntry);
+        InsertTailList(&Extension->Waiting.Irps, &Irp->Tail.Overlay.ListEntry);
         Waits = MakeCancelable(Irp, FALSE);
     }
-    KeReleaseSpinLock(&Extension->Lock, Irql);
+    KeReleaseSpinLock(&Extension->Waiting.Lock, Irql);
     if (Waits) {
         KeReleaseSemaphore(&Extension->Count, IO_NO_INCREMENT, 1, FALSE);
     } else {
@@ -119,17 +108,7 @@ static NTSTATUS NTAPI ReadWrite(PDEVICE_OBJECT DeviceObject, PIRP Irp) {
 }
 
 static NTSTATUS NTAPI Cleanup(PDEVICE_OBJECT DeviceObject, PIRP Irp) {
-    PEXTENSION Extension = DeviceObject->DeviceExtension;
-    PFILE_OBJECT File = FileOf(Irp);
-    PIRP Left;
-    KIRQL Irql;
-    KeAcquireSpinLock(&Extension->Lock, &Irql);
-    File->FsContext = File; /* a request that comes late doesn't wait any more */
-    KeReleaseSpinLock(&Extension->Lock, Irql);
-    while ((Left = Dequeue(Extension, File)) != NULL) {
-        Complete(Left, STATUS_CANCELLED);
-    }
-    return Complete(Irp, STATUS_SUCCESS);
+    return CleanUp(DeviceObject->DeviceExtension, Irp, Take);
 }
 
 static VOID NTAPI Unload(PDRIVER_OBJECT DriverObject) {
@@ -154,19 +133,15 @@ static NTSTATUS StartThread(PEXTENSION Extension) {
 }
 
 NTSTATUS NTAPI DriverEntry(PDRIVER_OBJECT DriverObject, PUNICODE_STRING RegistryPath) {
-    PEXTENSION Extension;
-    NTSTATUS Status = MakeDevice(DriverObject, sizeof(EXTENSION));
+    PEXTENSION Extension = Begin(DriverObject, sizeof(EXTENSION), ReadWrite, ReadWrite, Cleanup,
+                                 Unload);
+    NTSTATUS Status;
     UNREFERENCED_PARAMETER(RegistryPath);
-    if (!NT_SUCCESS(Status)) {
-        return Status;
+    if (Extension == NULL) {
+        return STATUS_INSUFFICIENT_RESOURCES;
     }
-    Extension = DriverObject->DeviceObject->DeviceExtension;
-    KeInitializeSpinLock(&Extension->Lock);
-    InitializeListHead(&Extension->Waiting);
+    InitializeReads(&Extension->Waiting);
     KeInitializeSemaphore(&Extension->Count, 0, MAXLONG);
-    Extension->Stops = FALSE;
-    Extension->Turns = 0;
-    SetDispatch(DriverObject, ReadWrite, ReadWrite, Cleanup, Unload);
     Status = StartThread(Extension);
     if (!NT_SUCCESS(Status)) {
         IoDeleteDevice(DriverObject->DeviceObject);
