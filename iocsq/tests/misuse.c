@@ -1,13 +1,5 @@
-/* Calls that a driver must not make, each with its report:
- *
- *     misuse           prints how many there are
- *     misuse NUMBER    prints the report that the call of this number leads to, and makes the call,
- *                      which ends the program with that report
- *
- * In turns, so that no other thread comes between. */
-#include "iocsq_test.h"
-
-#include <stdlib.h>
+/* Calls that a driver must not make, each with its report. misuse.h says how it is run. */
+#include "misuse.h"
 
 static ULONG none[64]; /* what was never initialized */
 static LARGE_INTEGER long_time = { .QuadPart = -1000000 };
@@ -295,7 +287,6 @@ static void begin_queue_without_callbacks(void) {
     IoCsqInitialize(&csq, NULL, NULL, NULL, NULL, NULL, NULL);
 }
 
-#define MISUSE(make, report) { make, report }
 static const struct {
     void (*make)(void);
     const char *report;
@@ -367,15 +358,8 @@ static const struct {
 };
 
 int main(int argc, char **argv) {
-    if (argc < 2) {
-        printf("%zu\n", ARRAYSIZE(misuses));
-        return 0;
-    }
-    size_t number = (size_t)strtoul(argv[1], NULL, 10) % ARRAYSIZE(misuses);
-    IocsqLimit(100);
-    IocsqTurns(1);
-    printf("%s\n", misuses[number].report);
-    fflush(stdout);
+    size_t number = choose(argc, argv, ARRAYSIZE(misuses));
+    announce(misuses[number].report);
     misuses[number].make();
     return 0;
 }

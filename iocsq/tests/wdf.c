@@ -1,14 +1,7 @@
-/* Calls of KMDF's that a driver must not make, each with its report, as misuse.c has them:
- *
- *     wdf           prints how many there are
- *     wdf NUMBER    prints the report that the call of this number leads to, and makes the call,
- *                   which ends the program with that report
- *
+/* Calls of KMDF's that a driver must not make, each with its report. misuse.h says how it is run.
  * The calls are made for a write, in EvtIoDefault. */
 #include "iocsq/wdf.h"
-#include "iocsq_test.h"
-
-#include <stdlib.h>
+#include "misuse.h"
 
 static WDFDEVICE device;
 static WDFQUEUE manual;
@@ -168,7 +161,6 @@ static NTSTATUS NTAPI entry(PDRIVER_OBJECT driver, PUNICODE_STRING path) {
     return WdfDriverCreate(driver, path, NULL, &config, NULL);
 }
 
-#define MISUSE(make, report) { make, report }
 static const struct {
     void (*make)(WDFREQUEST request); /* null: as the file object is opened */
     const char *report;
@@ -203,15 +195,8 @@ static const struct {
 };
 
 int main(int argc, char **argv) {
-    if (argc < 2) {
-        printf("%zu\n", ARRAYSIZE(misuses));
-        return 0;
-    }
-    size_t number = (size_t)strtoul(argv[1], NULL, 10) % ARRAYSIZE(misuses);
-    IocsqLimit(100);
-    IocsqTurns(1);
-    printf("%s\n", misuses[number].report);
-    fflush(stdout);
+    size_t number = choose(argc, argv, ARRAYSIZE(misuses));
+    announce(misuses[number].report);
     misuse = misuses[number].make;
     PFILE_OBJECT file = IocsqOpen(IocsqLoad(entry));
     IocsqSend(file, IRP_MJ_WRITE, "1", 1);
