@@ -92,32 +92,21 @@ static inline PIRP TakeFirst(PLIST_ENTRY Head, PFILE_OBJECT File, TAKE Take) {
     return Found;
 }
 
-/* A list under a spin lock, as FsContext is: not null once the file object is cleaned up. */
-typedef struct _READS {
-    KSPIN_LOCK Lock;
-    LIST_ENTRY Irps;
-} READS, *PREADS;
-
-static inline VOID InitializeReads(PREADS Reads) {
-    KeInitializeSpinLock(&Reads->Lock);
-    InitializeListHead(&Reads->Irps);
-}
-
-/* TakeFirst, with the lock. */
-static inline PIRP Dequeue(PREADS Reads, PFILE_OBJECT File, TAKE Take) {
-    PIRP Irp;
+/* The same of a list under a spin lock, which is taken. */
+static inline PIRP Dequeue(PKSPIN_LOCK Lock, PLIST_ENTRY Head, PFILE_OBJECT File, TAKE Take) {
+    PIRP Found;
     KIRQL Irql;
-    KeAcquireSpinLock(&Reads->Lock, &Irql);
-    Irp = TakeFirst(&Reads->Irps, File, Take);
-    KeReleaseSpinLock(&Reads->Lock, Irql);
-    return Irp;
+    KeAcquireSpinLock(Lock, &Irql);
+    Found = TakeFirst(Head, File, Take);
+    KeReleaseSpinLock(Lock, Irql);
+    return Found;
 }
 
-/* All of a cleanup. */
-static inline NTSTATUS CleanUp(PREADS Reads, PIRP Irp, TAKE Take) {
+/* All that a cleanup does with such a list. */
+static inline NTSTATUS CleanUp(PKSPIN_LOCK Lock, PLIST_ENTRY Head, PIRP Irp, TAKE Take) {
     PIRP Left;
-    MarkClosed(&Reads->Lock, FileOf(Irp));
-    while ((Left = Dequeue(Reads, FileOf(Irp), Take)) != NULL) {
+    MarkClosed(Lock, FileOf(Irp));
+    while ((Left = Dequeue(Lock, Head, FileOf(Irp), Take)) != NULL) {
         Complete(Left, STATUS_CANCELLED);
     }
     return Complete(Irp, STATUS_SUCCESS);

@@ -2,24 +2,29 @@
  * that a driver manages itself. A write completes the oldest. */
 #include "device.h"
 
+typedef struct _EXTENSION {
+    KSPIN_LOCK Lock;
+    LIST_ENTRY Reads; /* under Lock, as FsContext is: not null once the file object is cleaned up */
+} EXTENSION, *PEXTENSION;
+
 DRIVER_INITIALIZE DriverEntry;
 static DRIVER_DISPATCH Read, Write, Cleanup;
 static DRIVER_CANCEL CancelRead;
 static TAKE Take;
 
 static VOID NTAPI CancelRead(PDEVICE_OBJECT DeviceObject, PIRP Irp) {
-    PREADS Reads = DeviceObject->DeviceExtension;
+    PEXTENSION Extension = DeviceObject->DeviceExtension;
     KIRQL Irql;
 #if WRONG == 6
     IoReleaseCancelSpinLock(PASSIVE_LEVEL);
 #elif WRONG != 5
     IoReleaseCancelSpinLock(Irp->CancelIrql);
 #endif
-    KeAcquireSpinLock(&Reads->Lock, &Irql);
+    KeAcquireSpinLock(&Extension->Lock, &Irql);
 #if WRONG != 4
     RemoveEntryList(&Irp->Tail.Overlay.ListEntry);
 #endif
-    KeReleaseSpinLock(&Reads->Lock, Irql);
+    KeReleaseSpinLock(&Extension->Lock, Irql);
 #if WRONG != 8
     Complete(Irp, STATUS_CANCELLED);
 #endif
@@ -27,7 +32,7 @@ static VOID NTAPI CancelRead(PDEVICE_OBJECT DeviceObject, PIRP Irp) {
 
 /* Whether the read waits. If not, a cancel or the cleanup of its file object came first, and the
  * caller completes it. The lock is held. */
-static BOOLEAN Queue(PREADS Reads, PIRP Irp) {
+static BOOLEAN Queue(PEXTENSION Extension, PIRP Irp) {
     IoMarkIrpPending(Irp);
     if (WRONG != 10 && FileOf(Irp)->FsContext != NULL) {
         return FALSE;
@@ -37,7 +42,7 @@ static BOOLEAN Queue(PREADS Reads, PIRP Irp) {
         return FALSE;
     }
 #endif
-    InsertTailList(&Reads->Irps, &Irp->Tail.Overlay.ListEntry);
+    InsertTailList(&Extension->Reads, &Irp->Tail.Overlay.ListEntry);
     IoSetCancelRoutine(Irp, CancelRead);
 #if WRONG != 2 && WRONG != 3
     if (Irp->Cancel && IoSetCancelRoutine(Irp, NULL) != NULL) {
@@ -49,12 +54,12 @@ static BOOLEAN Queue(PREADS Reads, PIRP Irp) {
 }
 
 static NTSTATUS NTAPI Read(PDEVICE_OBJECT DeviceObject, PIRP Irp) {
-    PREADS Reads = DeviceObject->DeviceExtension;
+    PEXTENSION Extension = DeviceObject->DeviceExtension;
     KIRQL Irql;
     BOOLEAN Waits;
-    KeAcquireSpinLock(&Reads->Lock, &Irql);
-    Waits = Queue(Reads, Irp);
-    KeReleaseSpinLock(&Reads->Lock, Irql);
+    KeAcquireSpinLock(&Extension->Lock, &Irql);
+    Waits = Queue(Extension, Irp);
+    KeReleaseSpinLock(&Extension->Lock, Irql);
     if (!Waits) {
         Complete(Irp, STATUS_CANCELLED);
     }
@@ -80,7 +85,8 @@ static BOOLEAN Take(PIRP Irp, PFILE_OBJECT File) {
 }
 
 static NTSTATUS NTAPI Write(PDEVICE_OBJECT DeviceObject, PIRP Irp) {
-    PIRP Oldest = Dequeue(DeviceObject->DeviceExtension, NULL, Take);
+    PEXTENSION Extension = DeviceObject->DeviceExtension;
+    PIRP Oldest = Dequeue(&Extension->Lock, &Extension->Reads, NULL, Take);
     if (Oldest != NULL) {
         Complete(Oldest, STATUS_SUCCESS);
 #if WRONG == 11
@@ -91,21 +97,25 @@ static NTSTATUS NTAPI Write(PDEVICE_OBJECT DeviceObject, PIRP Irp) {
 }
 
 static NTSTATUS NTAPI Cleanup(PDEVICE_OBJECT DeviceObject, PIRP Irp) {
-    PREADS Reads = DeviceObject->DeviceExtension;
+    PEXTENSION Extension = DeviceObject->DeviceExtension;
+    PFILE_OBJECT File = FileOf(Irp);
     PIRP Left;
-    MarkClosed(&Reads->Lock, FileOf(Irp));
-    while (WRONG != 9 && (Left = Dequeue(Reads, FileOf(Irp), Take)) != NULL) {
+    MarkClosed(&Extension->Lock, File);
+    while (WRONG != 9 &&
+           (Left = Dequeue(&Extension->Lock, &Extension->Reads, File, Take)) != NULL) {
         Complete(Left, STATUS_CANCELLED);
     }
     return Complete(Irp, STATUS_SUCCESS);
 }
 
 NTSTATUS NTAPI DriverEntry(PDRIVER_OBJECT DriverObject, PUNICODE_STRING RegistryPath) {
-    PREADS Reads = Begin(DriverObject, sizeof(READS), Read, Write, Cleanup, UnloadDevice);
+    PEXTENSION Extension = Begin(DriverObject, sizeof(EXTENSION), Read, Write, Cleanup,
+                                 UnloadDevice);
     UNREFERENCED_PARAMETER(RegistryPath);
-    if (Reads == NULL) {
+    if (Extension == NULL) {
         return STATUS_INSUFFICIENT_RESOURCES;
     }
-    InitializeReads(Reads);
+    KeInitializeSpinLock(&Extension->Lock);
+    InitializeListHead(&Extension->Reads);
     return STATUS_SUCCESS;
 }

@@ -3,8 +3,9 @@
 #include "device.h"
 
 typedef struct _EXTENSION {
-    READS Reads;
-    KTIMER Timer; /* set while there are some */
+    KSPIN_LOCK Lock;
+    LIST_ENTRY Reads; /* under Lock, as FsContext is */
+    KTIMER Timer;     /* set while there are some */
     KDPC TimeOver;
 } EXTENSION, *PEXTENSION;
 
@@ -18,10 +19,10 @@ static TAKE Take;
 static VOID NTAPI CancelRead(PDEVICE_OBJECT DeviceObject, PIRP Irp) {
     PEXTENSION Extension = DeviceObject->DeviceExtension;
     KIRQL Irql = Irp->CancelIrql;
-    KeAcquireSpinLockAtDpcLevel(&Extension->Reads.Lock);
+    KeAcquireSpinLockAtDpcLevel(&Extension->Lock);
     IoReleaseCancelSpinLock(DISPATCH_LEVEL);
     RemoveEntryList(&Irp->Tail.Overlay.ListEntry);
-    KeReleaseSpinLock(&Extension->Reads.Lock, Irql);
+    KeReleaseSpinLock(&Extension->Lock, Irql);
     Complete(Irp, STATUS_CANCELLED);
 #if WRONG == 2
     KeCancelTimer(&Extension->Timer); /* as if no other read could wait */
@@ -41,7 +42,7 @@ static VOID NTAPI EndReads(PKDPC Dpc, PVOID Context, PVOID First, PVOID Second) 
     UNREFERENCED_PARAMETER(Dpc);
     UNREFERENCED_PARAMETER(First);
     UNREFERENCED_PARAMETER(Second);
-    while ((Irp = Dequeue(&Extension->Reads, NULL, Take)) != NULL) {
+    while ((Irp = Dequeue(&Extension->Lock, &Extension->Reads, NULL, Take)) != NULL) {
         Complete(Irp, STATUS_IO_TIMEOUT);
     }
 }
@@ -57,7 +58,7 @@ static BOOLEAN Queue(PEXTENSION Extension, PIRP Irp) {
     if (FileOf(Irp)->FsContext != NULL) {
         return FALSE;
     }
-    InsertTailList(&Extension->Reads.Irps, &Irp->Tail.Overlay.ListEntry);
+    InsertTailList(&Extension->Reads, &Irp->Tail.Overlay.ListEntry);
     IoSetCancelRoutine(Irp, CancelRead);
     if (Irp->Cancel && IoSetCancelRoutine(Irp, NULL) != NULL) {
         RemoveEntryList(&Irp->Tail.Overlay.ListEntry);
@@ -71,12 +72,12 @@ static NTSTATUS NTAPI Read(PDEVICE_OBJECT DeviceObject, PIRP Irp) {
     KIRQL Irql;
     BOOLEAN Waits;
     IoMarkIrpPending(Irp);
-    KeAcquireSpinLock(&Extension->Reads.Lock, &Irql);
+    KeAcquireSpinLock(&Extension->Lock, &Irql);
     Waits = Queue(Extension, Irp);
     if (Waits) {
         SetTimer(Extension);
     }
-    KeReleaseSpinLock(&Extension->Reads.Lock, Irql);
+    KeReleaseSpinLock(&Extension->Lock, Irql);
     if (!Waits) {
         Complete(Irp, STATUS_CANCELLED);
     }
@@ -84,7 +85,8 @@ static NTSTATUS NTAPI Read(PDEVICE_OBJECT DeviceObject, PIRP Irp) {
 }
 
 static NTSTATUS NTAPI Cleanup(PDEVICE_OBJECT DeviceObject, PIRP Irp) {
-    return CleanUp(DeviceObject->DeviceExtension, Irp, Take);
+    PEXTENSION Extension = DeviceObject->DeviceExtension;
+    return CleanUp(&Extension->Lock, &Extension->Reads, Irp, Take);
 }
 
 static VOID NTAPI Unload(PDRIVER_OBJECT DriverObject) {
@@ -100,7 +102,8 @@ NTSTATUS NTAPI DriverEntry(PDRIVER_OBJECT DriverObject, PUNICODE_STRING Registry
     if (Extension == NULL) {
         return STATUS_INSUFFICIENT_RESOURCES;
     }
-    InitializeReads(&Extension->Reads);
+    KeInitializeSpinLock(&Extension->Lock);
+    InitializeListHead(&Extension->Reads);
     KeInitializeTimer(&Extension->Timer);
     KeInitializeDpc(&Extension->TimeOver, EndReads, Extension);
     return STATUS_SUCCESS;

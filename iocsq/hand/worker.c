@@ -4,8 +4,9 @@
 #include "device.h"
 
 typedef struct _EXTENSION {
-    READS Waiting;
-    KSEMAPHORE Count; /* one for each request that was put into the list */
+    KSPIN_LOCK Lock;
+    LIST_ENTRY Waiting; /* under Lock, as FsContext is */
+    KSEMAPHORE Count;   /* one for each request that was put into the list */
     PETHREAD Thread;
     BOOLEAN Stops;
     ULONG Turns; /* of the thread */
@@ -22,12 +23,12 @@ static VOID NTAPI CancelWaiting(PDEVICE_OBJECT DeviceObject, PIRP Irp) {
     PEXTENSION Extension = DeviceObject->DeviceExtension;
     KIRQL Irql;
     IoReleaseCancelSpinLock(Irp->CancelIrql);
-    KeAcquireSpinLock(&Extension->Waiting.Lock, &Irql);
+    KeAcquireSpinLock(&Extension->Lock, &Irql);
     RemoveEntryList(&Irp->Tail.Overlay.ListEntry);
 #if WRONG == 4
-    KeReleaseSpinLockFromDpcLevel(&Extension->Waiting.Lock);
+    KeReleaseSpinLockFromDpcLevel(&Extension->Lock);
 #else
-    KeReleaseSpinLock(&Extension->Waiting.Lock, Irql);
+    KeReleaseSpinLock(&Extension->Lock, Irql);
 #endif
     Complete(Irp, STATUS_CANCELLED);
 }
@@ -57,12 +58,12 @@ static BOOLEAN Take(PIRP Irp, PFILE_OBJECT File) {
 static VOID PutBack(PEXTENSION Extension, PIRP Irp) {
     BOOLEAN Waits = FALSE;
     KIRQL Irql;
-    KeAcquireSpinLock(&Extension->Waiting.Lock, &Irql);
+    KeAcquireSpinLock(&Extension->Lock, &Irql);
     if (FileOf(Irp)->FsContext == NULL) {
-        InsertHeadList(&Extension->Waiting.Irps, &Irp->Tail.Overlay.ListEntry);
+        InsertHeadList(&Extension->Waiting, &Irp->Tail.Overlay.ListEntry);
         Waits = MakeCancelable(Irp, TRUE);
     }
-    KeReleaseSpinLock(&Extension->Waiting.Lock, Irql);
+    KeReleaseSpinLock(&Extension->Lock, Irql);
     if (!Waits) {
         Complete(Irp, STATUS_CANCELLED);
     } else if (WRONG != 1) {
@@ -78,7 +79,7 @@ static VOID NTAPI Serve(PVOID Context) {
         if (Extension->Stops) {
             break;
         }
-        Irp = Dequeue(&Extension->Waiting, NULL, Take);
+        Irp = Dequeue(&Extension->Lock, &Extension->Waiting, NULL, Take);
         if (Irp != NULL && ++Extension->Turns % 2 == 0) {
             PutBack(Extension, Irp);
         } else if (Irp != NULL) {
@@ -93,12 +94,12 @@ static NTSTATUS NTAPI ReadWrite(PDEVICE_OBJECT DeviceObject, PIRP Irp) {
     BOOLEAN Waits = FALSE;
     KIRQL Irql;
     IoMarkIrpPending(Irp);
-    KeAcquireSpinLock(&Extension->Waiting.Lock, &Irql);
+    KeAcquireSpinLock(&Extension->Lock, &Irql);
     if (FileOf(Irp)->FsContext == NULL) {
-        InsertTailList(&Extension->Waiting.Irps, &Irp->Tail.Overlay.ListEntry);
+        InsertTailList(&Extension->Waiting, &Irp->Tail.Overlay.ListEntry);
         Waits = MakeCancelable(Irp, FALSE);
     }
-    KeReleaseSpinLock(&Extension->Waiting.Lock, Irql);
+    KeReleaseSpinLock(&Extension->Lock, Irql);
     if (Waits) {
         KeReleaseSemaphore(&Extension->Count, IO_NO_INCREMENT, 1, FALSE);
     } else {
@@ -108,7 +109,8 @@ static NTSTATUS NTAPI ReadWrite(PDEVICE_OBJECT DeviceObject, PIRP Irp) {
 }
 
 static NTSTATUS NTAPI Cleanup(PDEVICE_OBJECT DeviceObject, PIRP Irp) {
-    return CleanUp(DeviceObject->DeviceExtension, Irp, Take);
+    PEXTENSION Extension = DeviceObject->DeviceExtension;
+    return CleanUp(&Extension->Lock, &Extension->Waiting, Irp, Take);
 }
 
 static VOID NTAPI Unload(PDRIVER_OBJECT DriverObject) {
@@ -140,7 +142,8 @@ NTSTATUS NTAPI DriverEntry(PDRIVER_OBJECT DriverObject, PUNICODE_STRING Registry
     if (Extension == NULL) {
         return STATUS_INSUFFICIENT_RESOURCES;
     }
-    InitializeReads(&Extension->Waiting);
+    KeInitializeSpinLock(&Extension->Lock);
+    InitializeListHead(&Extension->Waiting);
     KeInitializeSemaphore(&Extension->Count, 0, MAXLONG);
     Status = StartThread(Extension);
     if (!NT_SUCCESS(Status)) {
