@@ -1,6 +1,5 @@
 /* What hold.c and recancel.c share: the list, the cancel routine and the dispatch routine have a
- * reference to a request each, and the last one completes it. So the dispatch routine can look at
- * Irp->Cancel once the lock is released: nobody completes the request before. */
+ * reference to a request each, and the last one completes it. */
 #ifndef COUNTED_H
 #define COUNTED_H
 #include "requests.h"

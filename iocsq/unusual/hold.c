@@ -1,6 +1,5 @@
 /* The look at Irp->Cancel comes once the lock is released: the dispatch routine has a reference to
- * the request, as the list and the cancel routine have, and the last one completes it. So nobody
- * completes it before the look. */
+ * the request, so nobody completes it before. */
 #include "counted.h"
 
 static VOID Queue(PEXTENSION Extension, PREQUEST Request) {

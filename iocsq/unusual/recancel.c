@@ -1,6 +1,5 @@
 /* A read that was cancelled before its cancel routine was set is cancelled again by the dispatch
- * routine, which has a reference to it, as the list and the cancel routine have. The last one
- * completes it. */
+ * routine, which has a reference to it. */
 #include "counted.h"
 
 static VOID Queue(PEXTENSION Extension, PREQUEST Request) {
