@@ -283,6 +283,7 @@ extern _Thread_local struct iocsq_own iocsq_own;
 /* ---- report.c ---- */
 uint32_t iocsq_thread(void); /* this thread's number: 1 and so on */
 uint32_t iocsq_number_thread(void); /* the next one */
+uint32_t iocsq_thread_count(void);  /* no thread has a greater number */
 uint32_t iocsq_random(void);
 uint32_t iocsq_draw(uint32_t below);
 bool iocsq_rarely(uint32_t in); /* once in so many times */
