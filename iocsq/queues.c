@@ -181,6 +181,13 @@ VOID IocsqSetPolicy(PIO_CSQ Csq, const IOCSQ_POLICY *Policy) {
     }
 }
 
+BOOLEAN IocsqCovered(VOID) {
+    pthread_mutex_lock(&queues_mutex);
+    bool covered = iocsq_is_covered();
+    pthread_mutex_unlock(&queues_mutex);
+    return covered;
+}
+
 IOCSQ_POLICY iocsq_first_policy(void) {
     return first_policy;
 }

@@ -16,6 +16,8 @@ bool iocsq_has_null_contexts(const struct iocsq_queue *q);
 void iocsq_cover_insert(struct iocsq_queue *q);    /* that the driver accepted */
 void iocsq_cover_removal(struct iocsq_queue *q);   /* whose IRP the driver got */
 void iocsq_cover_cancelled(struct iocsq_queue *q); /* for which CsqCompleteCanceledIrp was called */
+bool iocsq_is_covered(void); /* all has happened that IocsqCoverage asks for: the queues' mutex is
+                              * held */
 
 /* ---- queues.c ---- */
 struct iocsq_queue {

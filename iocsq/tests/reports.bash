@@ -30,6 +30,23 @@ completed CsqCompleteCanceledIrp never ran
 cancelled nothing was removed
 END
   expect "coverage: reads are completed and cancelled" never_saw 0 "" "$work/coverage" both
+  run_idle "$@"
+}
+
+# The same of the patient test.
+run_idle() {
+  local objects idle=$work/idle
+  cat >"$idle.c" <<'END'
+#include "iocsq_test.h"
+extern const IOCSQ_POLICY DriverPolicy;
+const IOCSQ_POLICY DriverPolicy = { .NeverInserts = TRUE };
+END
+  TEST=patient iocsq_build "$idle" drivers/workers 4 "$@" &&
+    expect "patient: nothing was inserted" ends_so "$nothing" "^inserted 0, " \
+      "^iocsq: nothing was inserted: no request reached a queue" "$idle" 3 20 1
+  objects=$(iocsq_objects "$@") && "$@" -std=c11 "${warnings[@]}" -I"$top/include" "$objects"/*.o \
+    "$objects/tests/patient.o" "$idle.c" "$idle.driver.o" "${library[@]:-$objects/libcsq_plain.a}" -pthread -o "$idle" &&
+    expect "patient: nothing was inserted, as the policy says" ends_so 0 "^inserted 0, " "" "$idle" 3 20 1
 }
 
 # ends_so STATUS PATTERN PATTERN COMMAND..: it ends with this status, and its report has both.
