@@ -24,6 +24,7 @@ struct iocsq_step {
     const char *name;
     uint32_t pass;
     const char *during; /* which call of the driver, or IoCancelIrp, it is part of; null: unknown */
+    uint32_t thread;
 };
 
 /* What a driver does with the cancel routine that it sets itself (hand.c). */

@@ -106,7 +106,7 @@ static bool is_cancelling(const struct iocsq_schedule *s, uint32_t pass) {
 static bool end_cancels(struct iocsq_schedule *s) {
     for (uint32_t pass = 1; pass <= s->passes; pass++) {
         if (is_cancelling(s, pass) && s->count < IOCSQ_STEPS) {
-            struct iocsq_step take = { "take", pass, "IoCancelIrp" };
+            struct iocsq_step take = { "take", pass, "IoCancelIrp", 0 };
             s->steps[s->count++] = take;
         } else if (is_cancelling(s, pass)) {
             return false;
