@@ -47,7 +47,8 @@ struct iocsq_hand {
     bool released;        /* that thread has released its last lock since, */
     uint32_t released_at; /* and this was the number of steps then */
     bool started;         /* IoStartPacket has set it, and the IRP is the device's current one */
-    uint32_t by;          /* the pass by which it was set last */
+    uint32_t by;          /* the pass by which it was set last, */
+    const void *set_at;   /* and the address to which that call returned */
     uint32_t must_disarm; /* the thread that found the flag after it */
     uint32_t looked;      /* a thread that read Irp->Cancel before; with the next three, 0: none */
     uint32_t looked_at;   /* the number of steps then */
@@ -159,8 +160,8 @@ BOOLEAN iocsq_cancel(struct iocsq_irp *i);
 bool iocsq_is_by_hand(void);    /* the driver has initialized no IO_CSQ (coverage.c) */
 bool iocsq_has_framework(void); /* a KMDF driver is loaded (wdf.c) */
 void iocsq_hand_look(struct iocsq_irp *i); /* the driver reads Irp->Cancel */
-void iocsq_hand_set(struct iocsq_irp *i, bool sets, bool found); /* IoSetCancelRoutine, and whether
-                                                                  * it returned a routine */
+/* IoSetCancelRoutine, which returns to this address, and whether it returned a routine. */
+void iocsq_hand_set(struct iocsq_irp *i, bool sets, bool found, const void *at);
 void iocsq_hand_flag(struct iocsq_irp *i);             /* IoCancelIrp sets Irp->Cancel, */
 void iocsq_hand_take(struct iocsq_irp *i, bool found); /* and takes the routine, */
 void iocsq_hand_begin(struct iocsq_irp *i);            /* which begins */
@@ -267,6 +268,7 @@ struct iocsq_own {
     struct thread_object *system_thread; /* which it is, or null */
     uintptr_t callback; /* the driver's that it called last, but for CsqPeekNextIrp; 0: none */
     uintptr_t blamed;   /* the callback that its report is about; 0: none */
+    const void *set_at; /* where the cancel routine was set, if its report says so; null: nowhere */
     bool is_processor;
     uint32_t removals;  /* of it before which iocsq might look ahead */
     int report_status;  /* with which its report ends the program; 0: IOCSQ_DISAGREES */

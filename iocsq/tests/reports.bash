@@ -85,6 +85,11 @@ run_places() {
   iocsq_build "$storm" usual/idle 3 "$@" &&
     expect "places: a wrong peek context" ends_so "$policy" "^  at idle.c:[0-9]+, in Cleanup$" \
       "^  If the driver means it, the Match of its policy says what it means. Otherwise it isn't" "$storm" 6 3000 1 turns
+  iocsq_build "$storm" hand/own 2 "$@" &&
+    expect "places: where the cancel routine was set" ends_so "$disagrees" \
+      "^iocsq: t[0-9]+: irp [0-9]+: the driver doesn't look at Irp->Cancel after it has set the cancel routine: " \
+      "^  The cancel routine was set at own.c:[0-9]+, in (Queue|Read)$" "$storm" 6 3000 1 turns &&
+    expect "places: the threads of a schedule" grep -qE "^    # p1: t[0-9]+, in IRP_MJ_READ$" "$work/said"
   iocsq_build "$storm" usual/current 1 "$@" &&
     expect "places: no peek but the framework's, as the policy says" never_peeked "$storm" 6 3000 1 turns
   iocsq_build "$storm" usual/current 2 "$@" && expect "peeks: what iocsq's own ones write is undone" "$storm" 6 3000 1 turns
