@@ -311,6 +311,7 @@ extern IOCSQ_COUNTS iocsq_counts;
 
 /* ---- places.c ---- */
 void iocsq_show_places(bool in_signal); /* the driver's calls of this thread, the innermost first */
+void iocsq_show_function(const char *how, uintptr_t address); /* a line: how, and where that is */
 void iocsq_prepare_places(void);
 
 /* ---- schedule.c ---- */

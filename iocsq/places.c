@@ -142,13 +142,17 @@ static void print_address(const char *how, uintptr_t address, bool is_call) {
     }
 }
 
+void iocsq_show_function(const char *how, uintptr_t address) {
+    print_address(how, address, false);
+}
+
 void iocsq_show_places(bool in_signal) {
     if (iocsq_own.set_at) {
         print_address("The cancel routine was set at", (uintptr_t)iocsq_own.set_at - 1, true);
     }
     print_stack(in_signal);
     if (iocsq_own.blamed) {
-        print_address("the callback at", iocsq_own.blamed, false);
+        iocsq_show_function("the callback at", iocsq_own.blamed);
     }
 }
 

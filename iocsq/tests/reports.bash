@@ -31,6 +31,21 @@ cancelled nothing was removed
 END
   expect "coverage: reads are completed and cancelled" never_saw 0 "" "$work/coverage" both
   run_idle "$@"
+  run_begun_again "$@"
+}
+
+# names_no_kind STORM: it is quiet, and its table is of one kind of queues.
+names_no_kind() { never_saw 0 "" "$1" 6 1000 1 turns && ! grep -w kind "$work/table"; }
+
+# An IO_CSQ that is initialized again: while it is empty, and with a request in it.
+run_begun_again() {
+  local program=$work/begun
+  iocsq_build "$program" drivers/keys 4 "$@" && expect "coverage: an empty queue may be initialized again" names_no_kind "$program"
+  printf 'open f\n1 read f\n1 open g\n' >"$program.txt"
+  TEST=bounded iocsq_build "$program" drivers/keys 3 "$@" &&
+    expect "a queue with a request in it is initialized again" ends_so "$disagrees" "1 wrong$" \
+      "IoCsqInitializeEx of an IO_CSQ that was initialized before, and irp 0 is in its queue$" "$program" 0 "$program.txt"
+  grep -m1 '^iocsq: t' "$work/said" >>"$work/reports"
 }
 
 # The same of the patient test.
@@ -90,6 +105,9 @@ run_places() {
       "^iocsq: t[0-9]+: irp [0-9]+: the driver doesn't look at Irp->Cancel after it has set the cancel routine: " \
       "^  The cancel routine was set at own.c:[0-9]+, in (Queue|Read)$" "$storm" 6 3000 1 turns &&
     expect "places: the threads of a schedule" grep -qE "^    # p1: t[0-9]+, in IRP_MJ_READ$" "$work/said"
+  iocsq_build "$storm" drivers/keys 5 "$@" &&
+    expect "places: a queue that is never used" ends_so "$nothing" "^iocsq: nothing was inserted \\(queues of kind 2\\): " \
+      "^  The queues of kind 2 have their CsqInsertIrpEx at waiting.h:[0-9]+, in InsertWaiting$" "$storm" 6 1000 1 turns
   iocsq_build "$storm" usual/current 1 "$@" &&
     expect "places: no peek but the framework's, as the policy says" never_peeked "$storm" 6 3000 1 turns
   iocsq_build "$storm" usual/current 2 "$@" && expect "peeks: what iocsq's own ones write is undone" "$storm" 6 3000 1 turns
