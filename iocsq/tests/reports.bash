@@ -167,6 +167,15 @@ hand/own 2 p1 arm 0;p1 end
 hand/own 3 p1 test 0;p1 arm 0
 hand/worker 3 rearm 0;p[0-9]+ end
 END
+  rm -f "$work/schedules"
+  iocsq_build "$work/judged" unusual/sweep 0 "$@" 2>"$work/errors" &&
+    expect "judge, unusual/sweep: its schedules" env IOCSQ_SCHEDULES="$work/schedules" "$work/judged" 6 1000 1 turns
+  while read -r pattern; do
+    expect "judge, unusual/sweep, left out: $pattern" grep -xF "# left out: $pattern" "$work/schedules"
+  done <<'END'
+another thread's step comes before its insert is over, and in a schedule the insert has the lock until then
+its thread finds Irp->Cancel set, and doesn't take the cancel routine back itself
+END
   expect "judge: no file" refused "name a file of schedules" "$top/iocsq/judge" "$work/none"
   rm -f "$work/schedules"
   while read -r driver number; do
