@@ -220,6 +220,14 @@ static void print_schedules(void) {
     }
 }
 
+/* A run without it says nothing. */
+static void print_not_undone(void) {
+    uint64_t left = iocsq_count_not_undone();
+    if (left > 0) {
+        print_row("peek: writes in iocsq's own that weren't undone", "", left);
+    }
+}
+
 static void print_callbacks(const struct iocsq_kind *k) {
     for (uint32_t which = 0; which < IOCSQ_CALLBACKS && k->begun > 0; which++) {
         print_row(callback_name(k, which), kind_name(k), k->calls[which]);
@@ -236,6 +244,7 @@ static void print_table(void) {
             print_row(event_names[at], "", events[at]);
         }
     }
+    print_not_undone();
     print_schedules();
 }
 

@@ -179,21 +179,16 @@ uint32_t iocsq_hand_pass(const struct iocsq_irp *i); /* by which the steps say t
 void iocsq_explain_hand(const struct iocsq_irp *i);  /* what a report alone doesn't say */
 
 /* ---- undo.c ---- */
-enum { IOCSQ_UNDONE = 64, IOCSQ_WIDEST = 16 }; /* writes, and the bytes of one */
-struct iocsq_write {
-    void *at;
-    size_t size;
-    unsigned char before[IOCSQ_WIDEST];
-};
+struct iocsq_writes;
 struct iocsq_undo {
     uintptr_t frame;
-    uint32_t count;
-    struct iocsq_write writes[IOCSQ_UNDONE];
+    struct iocsq_writes *writes; /* null: there is none yet */
 };
 /* From now on this thread's writes in the driver are kept, except to frames below this one. */
 void iocsq_begin_undo(struct iocsq_undo *undo, const void *frame);
 void iocsq_note_write(const volatile void *at, size_t size); /* which is about to be made */
 void iocsq_end_undo(struct iocsq_undo *undo); /* undoes them, the last one first */
+uint64_t iocsq_count_not_undone(void);        /* writes, since a peek made too many */
 
 /* ---- accesses.c ---- */
 bool iocsq_sees_accesses(void); /* the driver is compiled so that its accesses to memory are seen */

@@ -111,6 +111,9 @@ run_places() {
   iocsq_build "$storm" usual/current 1 "$@" &&
     expect "places: no peek but the framework's, as the policy says" never_peeked "$storm" 6 3000 1 turns
   iocsq_build "$storm" usual/current 2 "$@" && expect "peeks: what iocsq's own ones write is undone" "$storm" 6 3000 1 turns
+  iocsq_build "$storm" usual/current 3 "$@" &&
+    expect "peeks: what isn't undone is counted" ends_so 0 "^  CsqPeekNextIrp +[0-9]{5,}$" \
+      "^  peek: writes in iocsq's own that weren't undone +[0-9]{5,}$" "$storm" 6 1000 1 turns
   iocsq_build "$storm" usual/idle 2 "$@" && expect "peeks: the device isn't idle by iocsq's own" "$storm" 6 3000 1 turns
   iocsq_build "$storm" drivers/filter 3 "$@" &&
     expect "places: a bad address" ends_so 139 "^iocsq: t[0-9]+: the driver used a bad address$" \
