@@ -7,20 +7,21 @@
  *
  * It ends as the storm does; with 71 also if no request was queued, unless the policy says that
  * none ever is (NeverInserts). If none was in these rounds, more follow until one is, since a
- * driver may answer most requests at once: some with many reads alone, then some with writes alone,
- * and so on with each kind of requests.
+ * driver may answer most requests at once: some with many requests of all kinds, then some with
+ * reads alone, with writes alone, and so on with each kind.
  */
 #include "program.h"
 
 #define USAGE "patient [--stop CALL] THREADS ROUNDS SEED"
 enum { THREADS = 6, ROUNDS = 40, FILES = 2, REQUESTS = 2, BYTES = 16, LONGEST = 4, SECONDS = 100 };
 enum { CANCELS = 4, PAUSE = 20 }; /* PAUSE: microseconds */
-enum { MORE_REQUESTS = 8, MORE_ROUNDS = 10, TIMES = 2 }; /* of each kind alone, so many times */
+enum { MORE_REQUESTS = 8, MORE_ROUNDS = 10, TIMES = 2 }; /* so many rounds, so many times */
 
 static PDRIVER_OBJECT driver;
 static PFILE_OBJECT files[FILES];
 static unsigned long ended, waiting;
-static int only = KIND_ANY; /* what is sent in this round */
+static int only = KIND_ANY;                /* what is sent in this round, */
+static uint32_t most_requests = REQUESTS; /* and how much by each thread */
 
 struct user {
     uint32_t dice;
@@ -51,7 +52,7 @@ static IOCSQ_REQUEST *send(struct user *u, unsigned char *buffer) {
 
 static void *use(void *user) {
     struct user *u = user;
-    uint32_t count = 1 + next_of(&u->dice, only == KIND_ANY ? REQUESTS : MORE_REQUESTS);
+    uint32_t count = 1 + next_of(&u->dice, most_requests);
     for (uint32_t at = 0; at < count; at++) {
         u->requests[at] = send(u, u->buffers[at]);
     }
@@ -118,9 +119,10 @@ static bool is_idle(void) {
 }
 
 static void run_more_rounds(int threads) {
-    int most = TIMES * count_kinds() * MORE_ROUNDS;
-    for (int at = 0; at < most && is_idle(); at++) {
-        only = at / MORE_ROUNDS % count_kinds();
+    int kinds = 1 + count_kinds(); /* with KIND_ANY, the first */
+    most_requests = MORE_REQUESTS;
+    for (int at = 0; at < TIMES * kinds * MORE_ROUNDS && is_idle(); at++) {
+        only = KIND_ANY + at / MORE_ROUNDS % kinds;
         run_round(threads, at % 2 != 0);
     }
 }
