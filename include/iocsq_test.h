@@ -188,6 +188,8 @@ IOCSQ_COUNTS IocsqCounts(VOID);
  * callback. Whether all of it happened. If not, a test ends with IOCSQ_TESTED_NOTHING. */
 BOOLEAN IocsqCoverage(VOID);
 enum { IOCSQ_TESTED_NOTHING = 71 };
+/* At any time: the same without a word, of what has happened by now. */
+BOOLEAN IocsqCovered(VOID);
 
 /* A disagreement ends the program with this status, after its report on standard error. */
 enum { IOCSQ_DISAGREES = 70 };

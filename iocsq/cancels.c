@@ -15,7 +15,7 @@ PDRIVER_CANCEL NTAPI IoSetCancelRoutine(PIRP Irp, PDRIVER_CANCEL CancelRoutine) 
         i->late = iocsq_is_closing(i->file); /* before a cleanup's check can find the routine */
     }
     PDRIVER_CANCEL before = atomic_exchange(&Irp->CancelRoutine, CancelRoutine);
-    iocsq_hand_set(i, CancelRoutine != NULL, before != NULL);
+    iocsq_hand_set(i, CancelRoutine != NULL, before != NULL, __builtin_return_address(0));
     return before;
 }
 

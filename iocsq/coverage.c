@@ -9,6 +9,8 @@ enum { KINDS = 32 };
 /* The queues that have the same callbacks. */
 struct iocsq_kind {
     IO_CSQ callbacks;
+    _Atomic uint32_t begun; /* how often, but for those that were begun again before they were
+                             * used; 0: there is no such kind */
     IOCSQ_POLICY policy;
     _Atomic ULONG64 calls[IOCSQ_CALLBACKS];
     _Atomic ULONG64 inserted, removed, cancelled;
@@ -80,17 +82,34 @@ static bool is_of_kind(const struct iocsq_kind *k, const IO_CSQ *csq) {
            c->CsqCompleteCanceledIrp == csq->CsqCompleteCanceledIrp;
 }
 
-struct iocsq_kind *iocsq_kind_of(const IO_CSQ *csq) {
+static struct iocsq_kind *find_kind(const IO_CSQ *csq) {
     for (uint32_t at = 0; at < kind_count; at++) {
         if (is_of_kind(&kinds[at], csq)) {
             return &kinds[at];
         }
     }
+    return NULL;
+}
+
+static struct iocsq_kind *new_kind(const IO_CSQ *csq) {
     if (kind_count == KINDS) {
         iocsq_fail("more than %u kinds of queues", (unsigned)KINDS);
     }
     kinds[kind_count].callbacks = *csq;
     return &kinds[kind_count++];
+}
+
+struct iocsq_kind *iocsq_kind_of(const IO_CSQ *csq) {
+    struct iocsq_kind *k = find_kind(csq);
+    if (!k) {
+        k = new_kind(csq);
+    }
+    k->begun++;
+    return k;
+}
+
+void iocsq_take_back_kind(struct iocsq_kind *k) {
+    k->begun--;
 }
 
 void iocsq_set_policy_of_kind(struct iocsq_kind *k, const IOCSQ_POLICY *policy) {
@@ -110,6 +129,7 @@ static uintptr_t address_of(const IO_CSQ *csq, enum iocsq_callback which) {
 
 void iocsq_cover_call(struct iocsq_queue *q, enum iocsq_callback which) {
     q->kind->calls[which]++;
+    q->used = true;
     if (which != IOCSQ_PEEK) {
         iocsq_own.callback = address_of(&q->kind->callbacks, which);
     }
@@ -145,12 +165,25 @@ static const char *callback_name(const struct iocsq_kind *k, uint32_t which) {
                                                                         : names[which];
 }
 
-/* Behind the name of what is of one kind, where there are more. */
+/* How many kinds there are up to this one, from 1 on. */
+static uint32_t number_of_kind(const struct iocsq_kind *k) {
+    uint32_t number = 0;
+    for (const struct iocsq_kind *each = kinds; each <= k; each++) {
+        number += each->begun > 0;
+    }
+    return number;
+}
+
+static bool are_several_kinds(void) {
+    return kind_count > 0 && number_of_kind(&kinds[kind_count - 1]) > 1;
+}
+
+/* Behind the name of what is of one kind, if there are more. */
 static const char *kind_name(const struct iocsq_kind *k) {
     static char name[32];
     name[0] = '\0';
-    if (kind_count > 1) {
-        snprintf(name, sizeof name, " (queues of kind %u)", (unsigned)(k - kinds) + 1);
+    if (are_several_kinds()) {
+        snprintf(name, sizeof name, " (queues of kind %u)", number_of_kind(k));
     }
     return name;
 }
@@ -187,24 +220,41 @@ static void print_schedules(void) {
     }
 }
 
+/* A run without it says nothing. */
+static void print_not_undone(void) {
+    uint64_t left = iocsq_count_not_undone();
+    if (left > 0) {
+        print_row("peek: writes in iocsq's own that weren't undone", "", left);
+    }
+}
+
+static void print_callbacks(const struct iocsq_kind *k) {
+    for (uint32_t which = 0; which < IOCSQ_CALLBACKS && k->begun > 0; which++) {
+        print_row(callback_name(k, which), kind_name(k), k->calls[which]);
+    }
+}
+
 static void print_table(void) {
     printf("What happened, and how often:\n");
-    for (uint32_t at = 0; at < kind_count * IOCSQ_CALLBACKS; at++) {
-        const struct iocsq_kind *k = &kinds[at / IOCSQ_CALLBACKS];
-        uint32_t which = at % IOCSQ_CALLBACKS;
-        print_row(callback_name(k, which), kind_name(k), k->calls[which]);
+    for (uint32_t at = 0; at < kind_count; at++) {
+        print_callbacks(&kinds[at]);
     }
     for (uint32_t at = 0; at < IOCSQ_EVENTS; at++) {
         if (has_row(at)) {
             print_row(event_names[at], "", events[at]);
         }
     }
+    print_not_undone();
     print_schedules();
 }
 
 /* ---- What never happened ---- */
+static FILE *complaints; /* where it is named; null: nowhere */
+
 static bool complain(const struct iocsq_kind *k, const char *what, const char *hint) {
-    fprintf(stderr, "iocsq: %s%s: %s\n", what, k ? kind_name(k) : "", hint);
+    if (complaints) {
+        fprintf(complaints, "iocsq: %s%s: %s\n", what, k ? kind_name(k) : "", hint);
+    }
     return false;
 }
 
@@ -232,7 +282,7 @@ static bool all_ran(const struct iocsq_kind *k) {
 static bool kind_was_tested(const struct iocsq_kind *k) {
     const IOCSQ_POLICY *policy = &k->policy;
     bool all = true;
-    if (policy->NeverInserts) {
+    if (policy->NeverInserts || k->begun == 0) {
         return true;
     }
     if (k->inserted == 0) {
@@ -276,15 +326,36 @@ static bool hand_was_tested(void) {
     return all;
 }
 
-BOOLEAN IocsqCoverage(VOID) {
+/* The same, and which kind it is that wasn't. */
+static bool is_tested(const struct iocsq_kind *k) {
+    bool tested = kind_was_tested(k);
+    if (!tested && complaints && are_several_kinds()) {
+        char how[64];
+        snprintf(how, sizeof how, "The queues of kind %u have their %s at", number_of_kind(k),
+                 callback_name(k, IOCSQ_INSERT));
+        iocsq_show_function(how, address_of(&k->callbacks, IOCSQ_INSERT));
+    }
+    return tested;
+}
+
+static bool all_happened(FILE *names_to) {
     bool all = true;
-    print_table();
-    fflush(stdout);
+    complaints = names_to;
     if (iocsq_is_by_hand()) {
         return hand_was_tested();
     }
     for (uint32_t at = 0; at < kind_count; at++) {
-        all = kind_was_tested(&kinds[at]) && all;
+        all = is_tested(&kinds[at]) && all;
     }
     return all;
+}
+
+bool iocsq_is_covered(void) {
+    return all_happened(NULL);
+}
+
+BOOLEAN IocsqCoverage(VOID) {
+    print_table();
+    fflush(stdout);
+    return all_happened(stderr);
 }

@@ -124,7 +124,7 @@ static bool looked_before(const struct iocsq_irp *i) {
     return h->looked == iocsq_thread() && h->looked_in && h->looked_in == iocsq_cancel_lock_hold();
 }
 
-static void arm(struct iocsq_irp *i) {
+static void arm(struct iocsq_irp *i, const void *at) {
     struct iocsq_hand *h = &i->hand;
     if (i->stay && !h->armed) {
         go_on_after_removal(i);
@@ -134,6 +134,7 @@ static void arm(struct iocsq_irp *i) {
         leave_out(i, "a cancel routine is set in the place of another");
     }
     h->by = again ? h->holder : this_pass(i);
+    h->set_at = at;
     h->released = h->started = false;
     iocsq_step(i, h->by, again ? "rearm" : "arm");
     h->state = IOCSQ_HAND_ARMED;
@@ -190,13 +191,13 @@ static void cover_set(const struct iocsq_irp *i, bool sets, bool found) {
     }
 }
 
-void iocsq_hand_set(struct iocsq_irp *i, bool sets, bool found) {
+void iocsq_hand_set(struct iocsq_irp *i, bool sets, bool found, const void *at) {
     cover_set(i, sets, found);
     if (sets && iocsq_is_by_hand()) {
         i->late = iocsq_is_closing(i->file);
     }
     if (sets && iocsq_in_turns()) {
-        arm(i);
+        arm(i, at);
     } else if (!sets && is_kept(i)) {
         disarm(i);
     }

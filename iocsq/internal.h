@@ -24,6 +24,7 @@ struct iocsq_step {
     const char *name;
     uint32_t pass;
     const char *during; /* which call of the driver, or IoCancelIrp, it is part of; null: unknown */
+    uint32_t thread;
 };
 
 /* What a driver does with the cancel routine that it sets itself (hand.c). */
@@ -46,7 +47,8 @@ struct iocsq_hand {
     bool released;        /* that thread has released its last lock since, */
     uint32_t released_at; /* and this was the number of steps then */
     bool started;         /* IoStartPacket has set it, and the IRP is the device's current one */
-    uint32_t by;          /* the pass by which it was set last */
+    uint32_t by;          /* the pass by which it was set last, */
+    const void *set_at;   /* and the address to which that call returned */
     uint32_t must_disarm; /* the thread that found the flag after it */
     uint32_t looked;      /* a thread that read Irp->Cancel before; with the next three, 0: none */
     uint32_t looked_at;   /* the number of steps then */
@@ -158,8 +160,8 @@ BOOLEAN iocsq_cancel(struct iocsq_irp *i);
 bool iocsq_is_by_hand(void);    /* the driver has initialized no IO_CSQ (coverage.c) */
 bool iocsq_has_framework(void); /* a KMDF driver is loaded (wdf.c) */
 void iocsq_hand_look(struct iocsq_irp *i); /* the driver reads Irp->Cancel */
-void iocsq_hand_set(struct iocsq_irp *i, bool sets, bool found); /* IoSetCancelRoutine, and whether
-                                                                  * it returned a routine */
+/* IoSetCancelRoutine, which returns to this address, and whether it returned a routine. */
+void iocsq_hand_set(struct iocsq_irp *i, bool sets, bool found, const void *at);
 void iocsq_hand_flag(struct iocsq_irp *i);             /* IoCancelIrp sets Irp->Cancel, */
 void iocsq_hand_take(struct iocsq_irp *i, bool found); /* and takes the routine, */
 void iocsq_hand_begin(struct iocsq_irp *i);            /* which begins */
@@ -177,21 +179,16 @@ uint32_t iocsq_hand_pass(const struct iocsq_irp *i); /* by which the steps say t
 void iocsq_explain_hand(const struct iocsq_irp *i);  /* what a report alone doesn't say */
 
 /* ---- undo.c ---- */
-enum { IOCSQ_UNDONE = 64, IOCSQ_WIDEST = 16 }; /* writes, and the bytes of one */
-struct iocsq_write {
-    void *at;
-    size_t size;
-    unsigned char before[IOCSQ_WIDEST];
-};
+struct iocsq_writes;
 struct iocsq_undo {
     uintptr_t frame;
-    uint32_t count;
-    struct iocsq_write writes[IOCSQ_UNDONE];
+    struct iocsq_writes *writes; /* null: there is none yet */
 };
 /* From now on this thread's writes in the driver are kept, except to frames below this one. */
 void iocsq_begin_undo(struct iocsq_undo *undo, const void *frame);
 void iocsq_note_write(const volatile void *at, size_t size); /* which is about to be made */
 void iocsq_end_undo(struct iocsq_undo *undo); /* undoes them, the last one first */
+uint64_t iocsq_count_not_undone(void);        /* writes, since a peek made too many */
 
 /* ---- accesses.c ---- */
 bool iocsq_sees_accesses(void); /* the driver is compiled so that its accesses to memory are seen */
@@ -266,6 +263,7 @@ struct iocsq_own {
     struct thread_object *system_thread; /* which it is, or null */
     uintptr_t callback; /* the driver's that it called last, but for CsqPeekNextIrp; 0: none */
     uintptr_t blamed;   /* the callback that its report is about; 0: none */
+    const void *set_at; /* where the cancel routine was set, if its report says so; null: nowhere */
     bool is_processor;
     uint32_t removals;  /* of it before which iocsq might look ahead */
     int report_status;  /* with which its report ends the program; 0: IOCSQ_DISAGREES */
@@ -283,6 +281,7 @@ extern _Thread_local struct iocsq_own iocsq_own;
 /* ---- report.c ---- */
 uint32_t iocsq_thread(void); /* this thread's number: 1 and so on */
 uint32_t iocsq_number_thread(void); /* the next one */
+uint32_t iocsq_thread_count(void);  /* no thread has a greater number */
 uint32_t iocsq_random(void);
 uint32_t iocsq_draw(uint32_t below);
 bool iocsq_rarely(uint32_t in); /* once in so many times */
@@ -307,6 +306,7 @@ extern IOCSQ_COUNTS iocsq_counts;
 
 /* ---- places.c ---- */
 void iocsq_show_places(bool in_signal); /* the driver's calls of this thread, the innermost first */
+void iocsq_show_function(const char *how, uintptr_t address); /* a line: how, and where that is */
 void iocsq_prepare_places(void);
 
 /* ---- schedule.c ---- */

@@ -12,8 +12,8 @@ hand=(hand/{own,slot,start,system,timed,worker,packet})
 # kmdf: those over KMDF.
 kmdf=(kmdf/{current,parts,referred,ticked,worked})
 # unusual: those that keep their requests in ways that are seldom seen; first those with an IO_CSQ.
-unusual=(unusual/{array,chain,context,dpcdone,drain,fastmutex,gate,parked,perfile,ranks,removelock,twolocks,workdone}
-  unusual/{clock,handover,hold,look,mark,packets,recancel,relay,restart,selfcall,slots,state,stored,sweep,switch,twolists})
+unusual=(unusual/{array,chain,context,dpcdone,drain,fastmutex,gate,mailbox,parked,perfile,ranks,removelock,twolocks,workdone}
+  unusual/{clock,handover,hold,letters,look,mark,packets,recancel,relay,restart,selfcall,slots,state,stored,sweep,switch,twolists})
 
 # Compiles the checker once for each compiler and flags, and prints the folder with its objects; those of the tests are
 # in the folder `tests` of it: iocsq_objects COMPILER FLAG..

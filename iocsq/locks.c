@@ -79,17 +79,23 @@ static void begin_word(ULONG_PTR *word, const char *what) {
 /* The thread that has the word, or UNTAKEN. */
 static ULONG_PTR known_owner(const ULONG_PTR *word, const char *what) {
     ULONG_PTR owner = owner_of(word);
-    if (owner != UNTAKEN && (owner == 0 || owner >= THREADS)) {
+    if (owner != UNTAKEN && (owner == 0 || owner > iocsq_thread_count())) {
         iocsq_disagree(NULL, "%s that was not initialized, or was overwritten", what);
     }
     return owner;
 }
 
 static const ULONG_PTR *waited_for[THREADS]; /* in turns: the word that each thread waits for, by
-                                              * the thread's number */
+                                              * the thread's number, if that is so small */
 
 static const ULONG_PTR *awaited_by(ULONG_PTR thread) {
     return thread < THREADS ? waited_for[thread] : NULL;
+}
+
+static void note_wait(ULONG_PTR thread, const ULONG_PTR *word) {
+    if (thread < THREADS) {
+        waited_for[thread] = word;
+    }
 }
 
 /* Whether who has the word waits for a word, and so on until one that this thread has: then none of
@@ -114,9 +120,9 @@ static void wait_for_word(ULONG_PTR *word, ULONG_PTR mine, const char *what) {
         return;
     }
     check_circle(word, mine, what);
-    waited_for[mine % THREADS] = word;
+    note_wait(mine, word);
     iocsq_wait_in_turns(is_free, word, IOCSQ_FOR_EVER, false, what);
-    waited_for[mine % THREADS] = NULL;
+    note_wait(mine, NULL);
 }
 
 static bool try_word(ULONG_PTR *word, const char *what) {

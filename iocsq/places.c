@@ -122,30 +122,37 @@ static void print_stack(bool in_signal) {
     }
 }
 
-/* Prints where a function is: the last place of its address, since those before are of what is
- * expanded in it. */
-static void print_function(uintptr_t address) {
+/* Prints the place of an address. Of several the first is of what is expanded there: the place of a
+ * call; the last is that of the function. */
+static void print_address(const char *how, uintptr_t address, bool is_call) {
     char command[FRAMES * 24];
     struct place place;
     bool found = false;
     begin_command(command, sizeof command);
     add_address(command, sizeof command, address);
     FILE *from = popen(command, "r");
-    while (from && read_place(from, &place)) {
+    while (from && !(found && is_call) && read_place(from, &place)) {
         found = true;
     }
     if (found) {
-        print_place("the callback at", &place);
+        print_place(how, &place);
     }
     if (from) {
         pclose(from);
     }
 }
 
+void iocsq_show_function(const char *how, uintptr_t address) {
+    print_address(how, address, false);
+}
+
 void iocsq_show_places(bool in_signal) {
+    if (iocsq_own.set_at) {
+        print_address("The cancel routine was set at", (uintptr_t)iocsq_own.set_at - 1, true);
+    }
     print_stack(in_signal);
     if (iocsq_own.blamed) {
-        print_function(iocsq_own.blamed);
+        iocsq_show_function("the callback at", iocsq_own.blamed);
     }
 }
 

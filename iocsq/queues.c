@@ -50,27 +50,31 @@ PFILE_OBJECT iocsq_irp_file(struct iocsq_irp *i) {
 }
 
 /* ---- The end of a queue's memory ---- */
-static void forget(struct iocsq_queue *q, const char *what) {
+/* `its`: what the queue is to what ends. */
+static void forget(struct iocsq_queue *q, const char *what, const char *its) {
     uint32_t listed = iocsq_reference_next(&q->reference, CSQ_ANY, CSQ_ANY);
     if (listed != CSQ_ANY) {
         const struct iocsq_irp *i = q->reference.by_slot[listed];
-        iocsq_disagree(i, "%s, and irp %u is in a queue in it", what, i->index);
+        iocsq_disagree(i, "%s, and irp %u is in %s", what, i->index, its);
     }
     if (q->calls > 0) {
-        iocsq_disagree(NULL, "%s, and a call or a cancel routine of a queue in it has not ended",
-                       what);
+        iocsq_disagree(NULL, "%s, and a call or a cancel routine of %s has not ended", what, its);
     }
     q->csq = NULL;
 }
 
-void iocsq_end_queues_in(const void *from, size_t size, const char *what) {
+static void forget_in(const void *from, size_t size, const char *what, const char *its) {
     pthread_mutex_lock(&queues_mutex);
     for (uint32_t at = 0; at < queue_count; at++) {
         if (queues[at]->csq && (uintptr_t)queues[at]->csq - (uintptr_t)from < size) {
-            forget(queues[at], what);
+            forget(queues[at], what, its);
         }
     }
     pthread_mutex_unlock(&queues_mutex);
+}
+
+void iocsq_end_queues_in(const void *from, size_t size, const char *what) {
+    forget_in(from, size, what, "a queue in it");
 }
 
 void iocsq_end_queues(void) {
@@ -119,9 +123,23 @@ static struct iocsq_queue *find_forgotten(void) {
     return NULL;
 }
 
+/* It may have been initialized before, which does no harm if nothing is in it: then only its
+ * callbacks of now count. */
+static void end_before(PIO_CSQ csq, const char *what) {
+    pthread_mutex_lock(&queues_mutex);
+    const struct iocsq_queue *before = find(csq);
+    if (before && !before->used) {
+        iocsq_take_back_kind(before->kind);
+    }
+    pthread_mutex_unlock(&queues_mutex);
+    forget_in(csq, sizeof *csq, what, "its queue");
+}
+
 static void begin(PIO_CSQ csq) {
     iocsq_expect_nonpaged(csq, "an IO_CSQ");
-    iocsq_end_queues_in(csq, sizeof *csq, "IoCsqInitialize of an IO_CSQ that is in use");
+    end_before(csq, csq->Type == IO_TYPE_CSQ_EX
+                        ? "IoCsqInitializeEx of an IO_CSQ that was initialized before"
+                        : "IoCsqInitialize of an IO_CSQ that was initialized before");
     pthread_mutex_lock(&queues_mutex);
     struct iocsq_queue *q = find_forgotten();
     if (!q) {
@@ -131,6 +149,7 @@ static void begin(PIO_CSQ csq) {
     q->policy = first_policy;
     q->kind = iocsq_kind_of(csq);
     iocsq_set_policy_of_kind(q->kind, &first_policy);
+    q->used = false;
     q->inside = 0;
     q->lock = NULL;
     csq->ReservePointer = q;
@@ -179,6 +198,13 @@ VOID IocsqSetPolicy(PIO_CSQ Csq, const IOCSQ_POLICY *Policy) {
     if (q) {
         iocsq_set_policy_of_kind(q->kind, Policy);
     }
+}
+
+BOOLEAN IocsqCovered(VOID) {
+    pthread_mutex_lock(&queues_mutex);
+    bool covered = iocsq_is_covered();
+    pthread_mutex_unlock(&queues_mutex);
+    return covered;
 }
 
 IOCSQ_POLICY iocsq_first_policy(void) {

@@ -8,7 +8,8 @@ enum iocsq_callback { IOCSQ_INSERT, IOCSQ_REMOVE, IOCSQ_PEEK, IOCSQ_ACQUIRE, IOC
                       IOCSQ_COMPLETE, IOCSQ_CALLBACKS };
 struct iocsq_queue;
 struct iocsq_kind;
-struct iocsq_kind *iocsq_kind_of(const IO_CSQ *csq); /* the queues' mutex is held */
+struct iocsq_kind *iocsq_kind_of(const IO_CSQ *csq); /* with the next: the queues' mutex is held */
+void iocsq_take_back_kind(struct iocsq_kind *k); /* one of its queues was begun again, unused */
 void iocsq_set_policy_of_kind(struct iocsq_kind *k, const IOCSQ_POLICY *policy);
 void iocsq_cover_call(struct iocsq_queue *q, enum iocsq_callback which);
 void iocsq_note_null_context(struct iocsq_queue *q); /* the driver peeks with one */
@@ -16,12 +17,15 @@ bool iocsq_has_null_contexts(const struct iocsq_queue *q);
 void iocsq_cover_insert(struct iocsq_queue *q);    /* that the driver accepted */
 void iocsq_cover_removal(struct iocsq_queue *q);   /* whose IRP the driver got */
 void iocsq_cover_cancelled(struct iocsq_queue *q); /* for which CsqCompleteCanceledIrp was called */
+bool iocsq_is_covered(void); /* all has happened that IocsqCoverage asks for: the queues' mutex is
+                              * held */
 
 /* ---- queues.c ---- */
 struct iocsq_queue {
     PIO_CSQ csq; /* null: its memory was freed */
     IOCSQ_POLICY policy;
     struct iocsq_kind *kind;
+    _Atomic bool used; /* one of its callbacks ran */
     struct iocsq_reference reference;
     _Atomic uint32_t calls;  /* and cancel routines of it, under way */
     _Atomic uint32_t inside; /* the thread that has the driver's lock, through CsqAcquireLock */

@@ -50,6 +50,10 @@ uint32_t iocsq_number_thread(void) {
     return ++threads;
 }
 
+uint32_t iocsq_thread_count(void) {
+    return threads;
+}
+
 uint32_t iocsq_thread(void) {
     if (iocsq_own.thread == 0) {
         iocsq_own.thread = iocsq_number_thread();

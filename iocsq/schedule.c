@@ -42,7 +42,7 @@ static void leave_out_put_back(struct iocsq_irp *i) {
 }
 
 void iocsq_step_before(struct iocsq_irp *i, uint32_t at, uint32_t pass, const char *name) {
-    struct iocsq_step step = { name, pass, iocsq_own.during };
+    struct iocsq_step step = { name, pass, iocsq_own.during, iocsq_thread() };
     if (i->step_count < IOCSQ_STEPS) {
         memmove(&i->steps[at + 1], &i->steps[at], (i->step_count - at) * sizeof step);
         i->steps[at] = step;
@@ -136,16 +136,22 @@ static void show_heading(const struct iocsq_schedule *s) {
     fprintf(stderr, ":\n");
 }
 
-/* What each pass is in as it makes its first step: csqsim draw writes it over the pass's column. */
-static void show_passes(const struct iocsq_schedule *s) {
-    uint32_t named = 0;
+/* Its first step of which is known what its thread was in; null: of none it is. */
+static const struct iocsq_step *first_of_pass(const struct iocsq_schedule *s, uint32_t pass) {
     for (uint32_t at = 0; at < s->count; at++) {
-        const struct iocsq_step *step = &s->steps[at];
-        if (step->pass > named) {
-            named = step->pass;
-            if (step->during) {
-                fprintf(stderr, "    # p%u: %s\n", step->pass, step->during);
-            }
+        if (s->steps[at].pass == pass && s->steps[at].during) {
+            return &s->steps[at];
+        }
+    }
+    return NULL;
+}
+
+/* Which thread each pass is, and what that is in: csqsim draw writes it over the pass's column. */
+static void show_passes(const struct iocsq_schedule *s) {
+    for (uint32_t pass = 1; pass <= s->passes; pass++) {
+        const struct iocsq_step *step = first_of_pass(s, pass);
+        if (step) {
+            fprintf(stderr, "    # p%u: t%u, in %s\n", pass, step->thread, step->during);
         }
     }
 }

@@ -106,7 +106,7 @@ static bool is_cancelling(const struct iocsq_schedule *s, uint32_t pass) {
 static bool end_cancels(struct iocsq_schedule *s) {
     for (uint32_t pass = 1; pass <= s->passes; pass++) {
         if (is_cancelling(s, pass) && s->count < IOCSQ_STEPS) {
-            struct iocsq_step take = { "take", pass, "IoCancelIrp" };
+            struct iocsq_step take = { "take", pass, "IoCancelIrp", 0 };
             s->steps[s->count++] = take;
         } else if (is_cancelling(s, pass)) {
             return false;
@@ -123,14 +123,20 @@ static bool can_be_judged(const struct iocsq_irp *i, struct iocsq_schedule *s, c
     return i->place != IOCSQ_DONE || end_cancels(s);
 }
 
-/* A refusal that says nothing of the driver. The lock is the protocol's, which need not be the
- * driver's; and who has found the flag after its arm may leave it to another to take the routine
- * back, or call IoCancelIrp, as long as it doesn't complete the IRP. */
-static bool is_unsayable(const struct iocsq_schedule *s, const struct iocsq_verdict *v) {
-    if (v->code == CSQ_NOT_NEXT && v->refusal.inside.next == CSQ_STEP_DISARM) {
-        return strcmp(s->steps[v->refused - 1].name, "done") != 0;
+/* Why a refusal says nothing of the driver; null: it does. The lock is the protocol's, and the
+ * driver need not have one. A thread that finds the flag set, after it has set the routine, may
+ * leave it to another thread to take the routine back, or may call IoCancelIrp, as long as it
+ * doesn't complete the IRP. */
+static const char *excuse_of(const struct iocsq_schedule *s, const struct iocsq_verdict *v) {
+    if (v->code == CSQ_LOCK_HELD) {
+        return "another thread's step comes before its insert is over, and in a schedule the "
+               "insert has the lock until then";
     }
-    return v->code == CSQ_LOCK_HELD;
+    bool looked = v->code == CSQ_NOT_NEXT && v->refusal.inside.next == CSQ_STEP_DISARM;
+    if (looked && strcmp(s->steps[v->refused - 1].name, "done") != 0) {
+        return "its thread finds Irp->Cancel set, and doesn't take the cancel routine back itself";
+    }
+    return NULL;
 }
 
 static void leave_out(const char *why) {
@@ -154,9 +160,9 @@ static bool note(const struct iocsq_irp *i, struct iocsq_schedule *s, struct ioc
     if (is_new) {
         *v = iocsq_judge_steps(s);
     }
-    if (is_new && is_unsayable(s, v)) {
-        leave_out("what comes between where its cancel routine is set and the end of its insert "
-                  "can't be said");
+    why = is_new ? excuse_of(s, v) : NULL;
+    if (why) {
+        leave_out(why);
         return false;
     }
     noted->counts.irps++;

@@ -11,10 +11,15 @@ enum { LOOKED_IN = 16 }; /* one in this many removals of a thread is looked ahea
 static _Atomic bool has_own_peeks; /* iocsq called CsqPeekNextIrp where the framework doesn't */
 
 void iocsq_show_own_peeks(void) {
+    uint64_t left = iocsq_count_not_undone();
     if (has_own_peeks) {
         fprintf(stderr,
                 "  iocsq itself called CsqPeekNextIrp too, where the framework does not. If a call "
                 "of it does more than return an IRP, the driver's policy says PeekHasEffects.\n");
+    }
+    if (left > 0) {
+        fprintf(stderr, "  %llu writes of such calls weren't undone, since there were too many.\n",
+                (unsigned long long)left);
     }
 }
 

@@ -42,7 +42,7 @@ static void end_thread(struct thread_object *object) {
 
 static void *run_thread(void *object) {
     iocsq_own.system_thread = object;
-    iocsq_own.during = "a system thread";
+    iocsq_own.during = "its StartRoutine";
     iocsq_own.system_thread->start(iocsq_own.system_thread->context);
     end_thread(iocsq_own.system_thread);
     return NULL;

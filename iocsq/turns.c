@@ -39,6 +39,7 @@ struct task {
     uint32_t number; /* as iocsq_thread returns it */
     bool is_time;    /* `until` is a time, and no limit */
     bool done;
+    bool joined; /* its place is free, with which another begins once there is no other */
     uint32_t priority; /* 0: it has none yet */
     struct iocsq_context bounded; /* in the bounded mode, with the next */
     struct iocsq_own own;
@@ -84,11 +85,17 @@ void iocsq_pass_time_in_turns(uint64_t nanoseconds) {
     now += nanoseconds;
 }
 
-static struct task *new_task(void) {
-    if (task_count == TASKS) {
-        iocsq_fail("more than %u threads", (unsigned)TASKS);
+static struct task *find_joined(void) {
+    for (uint32_t at = 0; at < task_count; at++) {
+        if (tasks[at].joined) {
+            return &tasks[at];
+        }
     }
-    struct task *t = &tasks[task_count++];
+    iocsq_fail("more than %u threads at a time", (unsigned)TASKS);
+}
+
+static struct task *new_task(void) {
+    struct task *t = task_count < TASKS ? &tasks[task_count++] : find_joined();
     memset(t, 0, sizeof *t);
     pthread_cond_init(&t->turn, NULL);
     t->until = IOCSQ_FOR_EVER;
@@ -456,6 +463,7 @@ VOID IocsqJoin(IOCSQ_THREAD Thread) {
     if (!iocsq_is_bounded()) {
         pthread_join(t->thread, NULL);
     }
+    t->joined = true;
 }
 
 /* Several threads of a test. */

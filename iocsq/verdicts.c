@@ -51,19 +51,19 @@ bool iocsq_is_judge_proved(void) {
 
 /* ---- In a report ---- */
 /* What a driver does that leads to such a refusal; null: it isn't known. */
-static const char *advice_of(const struct iocsq_verdict *v, const char *step) {
+static const char *fault_of(const struct iocsq_verdict *v, const char *step) {
     const struct csq_inside *inside = &v->refusal.inside;
     if (v->code == CSQ_NOT_NEXT && inside->next == CSQ_STEP_TEST) {
-        return "  It doesn't look at Irp->Cancel after it has set the cancel routine: a cancel "
-               "that came just before found no routine, and is lost.";
+        return "doesn't look at Irp->Cancel after it has set the cancel routine: a cancel that "
+               "came just before found no routine, and is lost";
     }
     if (v->code == CSQ_NOT_NEXT && strcmp(step, "test") == 0) {
-        return "  It looks at Irp->Cancel before it sets the cancel routine, without the cancel "
-               "spin lock: a cancel that comes between finds no routine, and is lost.";
+        return "looks at Irp->Cancel before it sets the cancel routine, without the cancel spin "
+               "lock: a cancel that comes between finds no routine, and is lost";
     }
     if (v->code == CSQ_NOT_NEXT && inside->next == CSQ_STEP_DISARM) {
-        return "  It found Irp->Cancel set, and doesn't take its cancel routine back by "
-               "IoSetCancelRoutine(Irp, NULL): that alone decides who completes the IRP.";
+        return "found Irp->Cancel set, and doesn't take its cancel routine back by "
+               "IoSetCancelRoutine(Irp, NULL): that alone decides who completes the IRP";
     }
     return NULL; /* of who completes what it doesn't have, hand.c knows more */
 }
@@ -93,14 +93,22 @@ static void write_cause(char *text, size_t size, const struct iocsq_verdict *v) 
     }
 }
 
+/* If it is known what the driver does wrong, that comes first, and what the machine says second. */
 void iocsq_report_refused(const struct iocsq_irp *i, const struct iocsq_schedule *s,
                           const struct iocsq_verdict *v) {
     const struct iocsq_step *step = &s->steps[v->refused - 1];
-    char cause[96];
+    const char *fault = fault_of(v, step->name);
+    char cause[96], refusal[192], hint[256];
     write_cause(cause, sizeof cause, v);
-    iocsq_set_hint(advice_of(v, step->name));
-    iocsq_disagree(
-        i, "the cancel path of irp %u breaks the protocol in step %u, p%u %s: %s (by %s)", i->index,
-        v->refused, step->pass, step->name, cause,
-        iocsq_is_judge_proved() ? "the proved machine" : "a machine that isn't proved");
+    snprintf(refusal, sizeof refusal, "%u, p%u %s: %s (by %s)", v->refused, step->pass, step->name,
+             cause,
+             iocsq_is_judge_proved() ? "the proved machine" : "a machine that isn't proved");
+    if (fault) {
+        snprintf(hint, sizeof hint, "  Its cancel path breaks the protocol in step %s.", refusal);
+        iocsq_set_hint(hint);
+        iocsq_own.set_at = i->hand.set_at;
+        iocsq_disagree(i, "irp %u: the driver %s", i->index, fault);
+    }
+    iocsq_disagree(i, "the cancel path of irp %u breaks the protocol in step %s", i->index,
+                   refusal);
 }

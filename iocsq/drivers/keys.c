@@ -9,6 +9,9 @@ typedef struct _WANTED {
 
 typedef struct _EXTENSION {
     WAITING Reads;
+#if WRONG == 5
+    WAITING Never; /* used */
+#endif
 } EXTENSION, *PEXTENSION;
 
 static ULONG KeyOf(PIRP Irp) {
@@ -43,6 +46,24 @@ static PIRP NTAPI PeekWanted(PIO_CSQ Csq, PIRP Irp, PVOID PeekContext) {
     }
     return NULL;
 }
+
+static VOID Begin(PWAITING Reads) {
+    InitializeListHead(&Reads->Irps);
+    KeInitializeSpinLock(&Reads->Lock);
+#if WRONG == 4 /* which does no harm, as long as nothing is in the queue */
+    IoCsqInitializeEx(&Reads->Queue, InsertWaiting, RemoveWaiting, PeekWaiting, LockWaiting,
+                      UnlockWaiting, CompleteWaiting);
+#endif
+    IoCsqInitializeEx(&Reads->Queue, InsertWaiting, RemoveWaiting, PeekWanted, LockWaiting,
+                      UnlockWaiting, CompleteWaiting);
+}
+
+#if WRONG == 3
+static NTSTATUS NTAPI Open(PDEVICE_OBJECT DeviceObject, PIRP Irp) {
+    Begin(&((PEXTENSION)DeviceObject->DeviceExtension)->Reads);
+    return Succeed(DeviceObject, Irp);
+}
+#endif
 
 static NTSTATUS NTAPI Read(PDEVICE_OBJECT DeviceObject, PIRP Irp) {
     return Wait(&((PEXTENSION)DeviceObject->DeviceExtension)->Reads, Irp);
@@ -88,10 +109,12 @@ NTSTATUS NTAPI DriverEntry(PDRIVER_OBJECT DriverObject, PUNICODE_STRING Registry
         return Status;
     }
     Extension = DeviceObject->DeviceExtension;
-    InitializeListHead(&Extension->Reads.Irps);
-    KeInitializeSpinLock(&Extension->Reads.Lock);
-    IoCsqInitializeEx(&Extension->Reads.Queue, InsertWaiting, RemoveWaiting, PeekWanted,
-                      LockWaiting, UnlockWaiting, CompleteWaiting);
+    Begin(&Extension->Reads);
+#if WRONG == 3
+    DriverObject->MajorFunction[IRP_MJ_CREATE] = Open;
+#elif WRONG == 5
+    InitializeWaiting(&Extension->Never, CompleteWaiting);
+#endif
     DriverObject->DriverUnload = Unload;
     DriverObject->MajorFunction[IRP_MJ_READ] = Read;
     DriverObject->MajorFunction[IRP_MJ_WRITE] = Write;

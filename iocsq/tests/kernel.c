@@ -75,6 +75,30 @@ static void locks(void) {
     CHECK(KeGetCurrentIrql() == PASSIVE_LEVEL);
 }
 
+struct counted {
+    KSPIN_LOCK lock;
+    int threads;
+};
+
+static void *count_thread(void *context) {
+    struct counted *counted = context;
+    KIRQL before;
+    KeAcquireSpinLock(&counted->lock, &before);
+    counted->threads++;
+    KeReleaseSpinLock(&counted->lock, before);
+    return NULL;
+}
+
+/* Many more, one after another, than there may be at a time. */
+static void threads(void) {
+    struct counted counted = { .threads = 0 };
+    KeInitializeSpinLock(&counted.lock);
+    for (int at = 0; at < 1200; at++) {
+        IocsqJoin(IocsqThread(count_thread, &counted));
+    }
+    CHECK(counted.threads == 1200);
+}
+
 static void remove_locks(void) {
     IO_REMOVE_LOCK lock;
     int tag;
@@ -451,6 +475,7 @@ int main(int argc, char **argv) {
     RUN(mutexes);
     RUN(several_objects);
     RUN(locks);
+    RUN(threads);
     RUN(remove_locks);
     RUN(timers_and_dpcs);
     RUN(work_items);

@@ -25,6 +25,18 @@ static inline uint32_t count_controls(void) {
     return count;
 }
 
+/* A kind of requests: reads, writes, or from KIND_CONTROL on the controls of one code each. */
+enum { KIND_ANY = -1, KIND_READ, KIND_WRITE, KIND_CONTROL };
+
+static inline int count_kinds(void) {
+    uint32_t controls = count_controls();
+    return KIND_CONTROL + (controls ? (int)controls : 1);
+}
+
+static inline ULONG code_of_kind(int kind) {
+    return count_controls() ? DriverControls[kind - KIND_CONTROL] : (ULONG)ANY_CONTROL;
+}
+
 static inline uint32_t next_of(uint32_t *dice, uint32_t below) {
     *dice ^= *dice << 13;
     *dice ^= *dice >> 17;

@@ -30,6 +30,38 @@ completed CsqCompleteCanceledIrp never ran
 cancelled nothing was removed
 END
   expect "coverage: reads are completed and cancelled" never_saw 0 "" "$work/coverage" both
+  run_idle "$@"
+  run_begun_again "$@"
+}
+
+# names_no_kind STORM: it is quiet, and its table is of one kind of queues.
+names_no_kind() { never_saw 0 "" "$1" 6 1000 1 turns && ! grep -w kind "$work/table"; }
+
+# An IO_CSQ that is initialized again: while it is empty, and with a request in it.
+run_begun_again() {
+  local program=$work/begun
+  iocsq_build "$program" drivers/keys 4 "$@" && expect "coverage: an empty queue may be initialized again" names_no_kind "$program"
+  printf 'open f\n1 read f\n1 open g\n' >"$program.txt"
+  TEST=bounded iocsq_build "$program" drivers/keys 3 "$@" &&
+    expect "a queue with a request in it is initialized again" ends_so "$disagrees" "1 wrong$" \
+      "IoCsqInitializeEx of an IO_CSQ that was initialized before, and irp 0 is in its queue$" "$program" 0 "$program.txt"
+  grep -m1 '^iocsq: t' "$work/said" >>"$work/reports"
+}
+
+# The same of the patient test.
+run_idle() {
+  local objects idle=$work/idle
+  cat >"$idle.c" <<'END'
+#include "iocsq_test.h"
+extern const IOCSQ_POLICY DriverPolicy;
+const IOCSQ_POLICY DriverPolicy = { .NeverInserts = TRUE };
+END
+  TEST=patient iocsq_build "$idle" drivers/workers 4 "$@" &&
+    expect "patient: nothing was inserted" ends_so "$nothing" "^inserted 0, " \
+      "^iocsq: nothing was inserted: no request reached a queue" "$idle" 3 20 1
+  objects=$(iocsq_objects "$@") && "$@" -std=c11 "${warnings[@]}" -I"$top/include" "$objects"/*.o \
+    "$objects/tests/patient.o" "$idle.c" "$idle.driver.o" "${library[@]:-$objects/libcsq_plain.a}" -pthread -o "$idle" &&
+    expect "patient: nothing was inserted, as the policy says" ends_so 0 "^inserted 0, " "" "$idle" 3 20 1
 }
 
 # ends_so STATUS PATTERN PATTERN COMMAND..: it ends with this status, and its report has both.
@@ -68,9 +100,20 @@ run_places() {
   iocsq_build "$storm" usual/idle 3 "$@" &&
     expect "places: a wrong peek context" ends_so "$policy" "^  at idle.c:[0-9]+, in Cleanup$" \
       "^  If the driver means it, the Match of its policy says what it means. Otherwise it isn't" "$storm" 6 3000 1 turns
+  iocsq_build "$storm" hand/own 2 "$@" &&
+    expect "places: where the cancel routine was set" ends_so "$disagrees" \
+      "^iocsq: t[0-9]+: irp [0-9]+: the driver doesn't look at Irp->Cancel after it has set the cancel routine: " \
+      "^  The cancel routine was set at own.c:[0-9]+, in (Queue|Read)$" "$storm" 6 3000 1 turns &&
+    expect "places: the threads of a schedule" grep -qE "^    # p1: t[0-9]+, in IRP_MJ_READ$" "$work/said"
+  iocsq_build "$storm" drivers/keys 5 "$@" &&
+    expect "places: a queue that is never used" ends_so "$nothing" "^iocsq: nothing was inserted \\(queues of kind 2\\): " \
+      "^  The queues of kind 2 have their CsqInsertIrpEx at waiting.h:[0-9]+, in InsertWaiting$" "$storm" 6 1000 1 turns
   iocsq_build "$storm" usual/current 1 "$@" &&
     expect "places: no peek but the framework's, as the policy says" never_peeked "$storm" 6 3000 1 turns
   iocsq_build "$storm" usual/current 2 "$@" && expect "peeks: what iocsq's own ones write is undone" "$storm" 6 3000 1 turns
+  iocsq_build "$storm" usual/current 3 "$@" &&
+    expect "peeks: what isn't undone is counted" ends_so 0 "^  CsqPeekNextIrp +[0-9]{5,}$" \
+      "^  peek: writes in iocsq's own that weren't undone +[0-9]{5,}$" "$storm" 6 1000 1 turns
   iocsq_build "$storm" usual/idle 2 "$@" && expect "peeks: the device isn't idle by iocsq's own" "$storm" 6 3000 1 turns
   iocsq_build "$storm" drivers/filter 3 "$@" &&
     expect "places: a bad address" ends_so 139 "^iocsq: t[0-9]+: the driver used a bad address$" \
@@ -126,6 +169,15 @@ usual/transfer 0 none
 hand/own 2 p1 arm 0;p1 end
 hand/own 3 p1 test 0;p1 arm 0
 hand/worker 3 rearm 0;p[0-9]+ end
+END
+  rm -f "$work/schedules"
+  iocsq_build "$work/judged" unusual/sweep 0 "$@" 2>"$work/errors" &&
+    expect "judge, unusual/sweep: its schedules" env IOCSQ_SCHEDULES="$work/schedules" "$work/judged" 6 1000 1 turns
+  while read -r pattern; do
+    expect "judge, unusual/sweep, left out: $pattern" grep -xF "# left out: $pattern" "$work/schedules"
+  done <<'END'
+another thread's step comes before its insert is over, and in a schedule the insert has the lock until then
+its thread finds Irp->Cancel set, and doesn't take the cancel routine back itself
 END
   expect "judge: no file" refused "name a file of schedules" "$top/iocsq/judge" "$work/none"
   rm -f "$work/schedules"

@@ -7,8 +7,11 @@
  *     storm --stop CALL THREADS ..                stops for a debugger (SIGTRAP) as it makes the
  *                                                 call of this number, as a report has it; in turns
  *
- * It ends with status 0, with 70 after a report (IOCSQ_DISAGREES), and with 71 where something
- * never happened without which the run says nothing of the driver's queue (IOCSQ_TESTED_NOTHING).
+ * It ends with status 0, with 70 after a report (IOCSQ_DISAGREES), and with 71 if something never
+ * happened without which the run says nothing of the driver's queue (IOCSQ_TESTED_NOTHING). If that
+ * is so after all turns, more rounds of turns follow until it has happened, unless SWITCHES are
+ * given: in every other one all threads send requests of one kind, since a driver may answer most
+ * requests at once.
  * 72: a policy is missing, or a peek context isn't what it says (IOCSQ_NO_POLICY).
  * 2: an argument is wrong.
  */
@@ -20,12 +23,14 @@
 enum { THREADS = 32, CANCELLERS = 3, OPEN = 6, MINE = 12, BYTES = 16, LONGEST = 4, SECONDS = 100 };
 enum { SCARCE = 64 }; /* of so many allocations of the driver's one fails */
 enum { SHORTEST_PAUSE = 20, LONGEST_PAUSE = 320 }; /* microseconds */
+enum { MORE_TURNS = 500, TIMES = 2 }; /* of a further round; of each kind alone, so many rounds */
 
 static PDRIVER_OBJECT driver;
 static long turns;
 static ULONG patience = 20000; /* milliseconds */
 static _Atomic unsigned long succeeded, cancelled, timed_out, refused, cancels;
 static _Atomic int ending;
+static int only = KIND_ANY; /* what is sent in this round */
 
 /* A request under way: its buffer stays where it is until the request was completed. */
 struct request {
@@ -64,6 +69,9 @@ enum oddity { OTHER_CODE, NO_INPUT, NO_OUTPUT, NO_BUFFER, CONTROLS = 32 };
 
 static ULONG control_code(struct user *u) {
     uint32_t count = count_controls();
+    if (only != KIND_ANY) {
+        return code_of_kind(only);
+    }
     return count ? DriverControls[roll(u, count)] : (ULONG)ANY_CONTROL;
 }
 
@@ -94,10 +102,13 @@ static void send(struct user *u, struct request *r, PFILE_OBJECT file, bool besi
     r->file = file;
     r->beside = beside;
     fill_buffer(&u->numbers, r->buffer, BYTES);
-    if (act >= 10 && act < 13) {
+    int drawn = act < 10 ? KIND_READ : act < 13 ? KIND_CONTROL : KIND_WRITE;
+    int kind = only == KIND_ANY ? drawn : only;
+    if (kind >= KIND_CONTROL) {
         r->sent = control(u, file, r->buffer, length);
     } else {
-        r->sent = IocsqSend(file, act < 10 ? IRP_MJ_READ : IRP_MJ_WRITE, r->buffer, length);
+        UCHAR major = kind == KIND_READ ? IRP_MJ_READ : IRP_MJ_WRITE;
+        r->sent = IocsqSend(file, major, r->buffer, length);
     }
 }
 
@@ -188,25 +199,63 @@ static void *cancel_any(void *of) {
 }
 
 /* ---- The run ---- */
-static void run(int threads, uint32_t seed) {
-    static struct user users[THREADS];
-    IOCSQ_THREAD started[THREADS], cancellers[CANCELLERS];
-    driver = load_driver("storm");
-    IocsqScarce(SCARCE);
+static struct user users[THREADS];
+static IOCSQ_THREAD started[THREADS], cancellers[CANCELLERS];
+
+static void seed_users(int threads, uint32_t seed) {
     for (int at = 0; at < threads; at++) {
         users[at].dice = users[at].numbers = (uint32_t)at * 7919u + seed * 104729u + 1;
+    }
+}
+
+static void start_users(int threads) {
+    for (int at = 0; at < threads; at++) {
         started[at] = IocsqThread(use, &users[at]);
     }
-    for (int at = 0; at < CANCELLERS; at++) {
-        cancellers[at] = IocsqThread(cancel_any, NULL);
-    }
+}
+
+static void join_users(int threads) {
     for (int at = 0; at < threads; at++) {
         IocsqJoin(started[at]);
     }
+}
+
+static void start_cancellers(void) {
+    for (int at = 0; at < CANCELLERS; at++) {
+        cancellers[at] = IocsqThread(cancel_any, NULL);
+    }
+}
+
+static void join_cancellers(void) {
     ending = 1;
     for (int at = 0; at < CANCELLERS; at++) {
         IocsqJoin(cancellers[at]);
     }
+}
+
+/* Until all has happened. */
+static void run_more_rounds(int threads) {
+    int most = 2 * TIMES * count_kinds();
+    turns = MORE_TURNS;
+    for (int at = 0; at < most && !IocsqCovered(); at++) {
+        only = at % 2 ? at / 2 % count_kinds() : KIND_ANY;
+        start_users(threads);
+        join_users(threads);
+    }
+}
+
+/* `goes_on`: with more rounds, if something hasn't happened. */
+static void run(int threads, uint32_t seed, bool goes_on) {
+    driver = load_driver("storm");
+    IocsqScarce(SCARCE);
+    seed_users(threads, seed);
+    start_users(threads);
+    start_cancellers();
+    join_users(threads);
+    if (goes_on) {
+        run_more_rounds(threads);
+    }
+    join_cancellers();
     IocsqScarce(0);
     IocsqUnload(driver);
 }
@@ -240,7 +289,7 @@ int main(int argc, char **argv) {
     } else {
         IocsqChaos(seed);
     }
-    run(threads, seed);
+    run(threads, seed, argc <= 5);
     print_counts();
     return IocsqCoverage() ? 0 : IOCSQ_TESTED_NOTHING;
 }

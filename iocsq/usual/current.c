@@ -69,11 +69,24 @@ static PIRP FindNext(PONE_AT_A_TIME Device, PIRP After, PVOID File) {
     return NULL;
 }
 
+#if WRONG == 3 /* no fault, but more than iocsq undoes of a peek */
+static volatile ULONG Peeks[2048];
+static VOID NotePeek(VOID) {
+    ULONG At;
+    for (At = 0; At < ARRAYSIZE(Peeks); At++) {
+        Peeks[At]++;
+    }
+}
+#else
+#define NotePeek() NOTHING
+#endif
+
 static PIRP NTAPI PeekAndMakeCurrent(PIO_CSQ Csq, PIRP Irp, PVOID PeekContext) {
     PIRP Next = FindNext(DeviceOf(Csq), Irp, PeekContext);
     if (PeekContext == NULL || WRONG == 1) { /* the cleanup's peeks leave the current IRP alone */
         DeviceOf(Csq)->Current = Next;
     }
+    NotePeek();
     return Next;
 }
 
