@@ -86,7 +86,7 @@ NTSTATUS NTAPI DriverEntry(PDRIVER_OBJECT DriverObject, PUNICODE_STRING Registry
     if (Extension == NULL) {
         return STATUS_INSUFFICIENT_RESOURCES;
     }
-    InitializeOwn(&Extension->Reads, InsertRead, PeekWaiting);
+    InitializeOwn(&Extension->Reads, InsertRead, PeekWaiting, CompleteWaiting);
     KeInitializeTimer(&Extension->Post);
     KeInitializeDpc(&Extension->Delivery, Deliver, Extension);
     Extension->Letters = SACK;
