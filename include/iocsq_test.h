@@ -6,6 +6,8 @@
 #ifndef IOCSQ_TEST_H
 #define IOCSQ_TEST_H
 #include "iocsq.h"
+
+#include <stdio.h>
 #ifdef __cplusplus
 extern "C" {
 #endif
@@ -153,12 +155,31 @@ typedef struct _IOCSQ_EXPLORED {
     int Status;          /* 0: all were run, and none ended with a report. Otherwise that of the
                           * last, as a shell has it */
     ULONG Preemptions;   /* of the last: none that was run has fewer and a report */
-    char Schedule[600];  /* of the last, for IocsqReplay */
+    char Schedule[900];  /* of the last, for IocsqReplay */
     ULONG64 Longer;      /* of IocsqDraw, with the next: runs that had more steps, and don't
                           * count */
     ULONG Threads, Steps;
     BOOLEAN Unfinished;  /* IocsqExploreWithin has ended it */
+    ULONG64 Left;        /* runs that were ended in a state in which another had been */
+    ULONG64 Classes;     /* of schedules: two of one differ in the order of independent steps */
+    BOOLEAN Checked;     /* the driver's accesses were (IocsqRaces) */
 } IOCSQ_EXPLORED;
+/* Of a driver whose file alone is compiled with -fsanitize=thread, in turns and in the bounded
+ * mode: called before IocsqTurns, or before the first exploration. 0: its accesses to memory aren't
+ * checked. 1: two accesses to one place, one of them a write, are reported if no call of the WDK
+ * orders them. 2: each access is also a point at which another thread may come between. 3: as 2,
+ * and none is reported. (A data race: C11, 5.1.2.4; what orders two accesses: own rules.) */
+VOID IocsqRaces(ULONG Level);
+/* Whether a volatile write of the driver happens before the volatile reads that see it: with MSVC's
+ * /volatile:ms, as at first here, and not with its /volatile:iso, the default for ARM64. */
+VOID IocsqVolatile(BOOLEAN Orders);
+/* With that, in the bounded mode: of runs that differ in the order of independent steps alone one
+ * is made to its end. The program is linked with --wrap=malloc, --wrap=calloc, --wrap=realloc and
+ * --wrap=free, and an object of the test's own that threads share is named as they use it. */
+VOID IocsqReduce(BOOLEAN Reduces);
+/* With that: writes a line for each schedule, of its class and of what each thread logged. */
+VOID IocsqTraces(FILE *To);
+VOID IocsqShared(const VOID *Object, BOOLEAN Changes);
 /* Calls Run with each schedule of at most MostPreemptions preemptions, in another process: first
  * those without, then those with one, and so on, until one ends that process. Run loads the driver
  * and unloads it, and frees what it allocates: each time it is called the program's variables have

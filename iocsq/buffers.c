@@ -21,6 +21,7 @@ static void allocate(struct iocsq_buffer *made, uint32_t size, const void *of_se
     for (uint32_t at = 0; at < size; at++) {
         made->at[at] = of_pool(at);
     }
+    iocsq_begin_memory(made->at, size); /* it may have been the pool's */
     made->filled = of_sender ? filled : 0;
     if (size && of_sender) {
         memcpy(made->at, of_sender, filled);
@@ -43,6 +44,9 @@ void iocsq_give_buffers(struct iocsq_irp *i, struct iocsq_sent sent) {
     bool is_control = i->major == IRP_MJ_DEVICE_CONTROL;
     i->irp.UserBuffer = i->sender_buffer = sent.buffer;
     i->output = sent.buffer ? sent.output : 0;
+    if (sent.buffer) { /* it may have been that of a request before */
+        iocsq_begin_memory(sent.buffer, sent.input > sent.output ? sent.input : sent.output);
+    }
     switch (sent.method) {
     case METHOD_BUFFERED:
         give_system(i, sent.input > sent.output ? sent.input : sent.output, sent.input);
@@ -91,6 +95,17 @@ void iocsq_take_buffers(struct iocsq_irp *i) {
     }
     take(&i->buffer);
     take(&i->direct);
+}
+
+static void end(const struct iocsq_buffer *of, const void *place) {
+    if (of->at) {
+        iocsq_end_memory(of->at, of->size, "IoCompleteRequest", place);
+    }
+}
+
+void iocsq_end_buffers(const struct iocsq_irp *i, const void *place) {
+    end(&i->buffer, place);
+    end(&i->direct, place);
 }
 
 static void free_one(struct iocsq_buffer *of) {

@@ -24,6 +24,7 @@ static PVOID system_buffer(const void *from, ULONG filled, ULONG size) {
     if (from && filled > 0) {
         memcpy(made, from, filled);
     }
+    iocsq_begin_memory(made, size);
     return made;
 }
 
@@ -143,7 +144,8 @@ void iocsq_end_built(struct iocsq_irp *i) {
     if (built.output && built.buffer && !NT_ERROR(result.Status)) {
         memcpy(built.output, built.buffer, count);
     }
-    iocsq_lock_state();
+    iocsq_lock_state_for(NULL, 0);
+    iocsq_touch_irps();
     iocsq_end_own(i);
     iocsq_unlock_state();
     *built.result = result;

@@ -9,6 +9,7 @@ PDRIVER_CANCEL NTAPI IoSetCancelRoutine(PIRP Irp, PDRIVER_CANCEL CancelRoutine) 
                        i->index);
     }
     iocsq_point();
+    iocsq_touch(i, IOCSQ_SYNC);
     iocsq_log(i, "IoSetCancelRoutine(irp %u, %s)", i->index,
               CancelRoutine ? "one of the driver" : "none");
     if (CancelRoutine && iocsq_is_by_hand()) {
@@ -59,6 +60,7 @@ static void run_routine(struct iocsq_irp *i, PDRIVER_CANCEL routine, KIRQL befor
 /* Takes the routine of the driver's own, if there is one, with the cancel spin lock held. Whether
  * there was. */
 static bool take_routine(struct iocsq_irp *i, KIRQL before) {
+    iocsq_touch(i, IOCSQ_SYNC);
     PDRIVER_CANCEL routine = atomic_exchange(&i->irp.CancelRoutine, (PDRIVER_CANCEL)NULL);
     iocsq_hand_take(i, routine != NULL);
     if (!routine) {
@@ -74,6 +76,7 @@ static bool take_routine(struct iocsq_irp *i, KIRQL before) {
 static bool cancel_by_hand(struct iocsq_irp *i) {
     KIRQL before;
     IoAcquireCancelSpinLock(&before);
+    iocsq_touch(i, IOCSQ_CHANGES);
     i->irp.Cancel = TRUE;
     iocsq_hand_flag(i);
     if (!i->irp.CancelRoutine) {
@@ -86,6 +89,7 @@ static bool cancel_by_hand(struct iocsq_irp *i) {
  * longer than it takes to release it: so more orders come. */
 static bool cancel_beside_queues(struct iocsq_irp *i) {
     KIRQL before;
+    iocsq_touch(i, IOCSQ_CHANGES);
     i->irp.Cancel = TRUE;
     iocsq_hand_flag(i);
     iocsq_long_point(8);

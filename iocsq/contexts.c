@@ -3,6 +3,8 @@
 #include "contexts.h"
 #include "internal.h"
 
+#include <pthread.h>
+
 #include <sys/mman.h>
 
 enum { STACK = 512 * 1024 };
@@ -37,6 +39,7 @@ static void hear_warning(void) {
 
 static struct iocsq_context *left; /* which was switched from last */
 static char *stacks;
+static size_t stack_count;
 
 void iocsq_begin_contexts(size_t count) {
     stacks = mmap(NULL, count * STACK, PROT_READ | PROT_WRITE,
@@ -44,6 +47,7 @@ void iocsq_begin_contexts(size_t count) {
     if (stacks == MAP_FAILED) {
         iocsq_fail("no memory for the stacks of threads");
     }
+    stack_count = count;
     hear_warning();
 }
 
@@ -82,4 +86,33 @@ void iocsq_switch_context(struct iocsq_context *from, struct iocsq_context *to, 
     swapcontext(&from->registers, &to->registers);
     FINISH_SWITCH(kept, &stack, &size);
     note_left(stack, size);
+}
+
+/* ---- Stacks ---- */
+/* On which of these stacks the address is; -1: on none. */
+static long stack_of(const void *at) {
+    uintptr_t offset = (uintptr_t)at - (uintptr_t)stacks;
+    return stacks && offset < stack_count * STACK ? (long)(offset / STACK) : -1;
+}
+
+/* The stack of a thread of the system: what it allocates may lie close to that. */
+static bool is_on_thread_stack(const void *at) {
+    static _Thread_local char *from;
+    static _Thread_local size_t size;
+    if (!from) {
+        pthread_attr_t of;
+        void *lowest;
+        if (pthread_getattr_np(pthread_self(), &of) != 0 ||
+            pthread_attr_getstack(&of, &lowest, &size) != 0) {
+            iocsq_fail("a thread's stack isn't known");
+        }
+        pthread_attr_destroy(&of);
+        from = lowest;
+    }
+    return (uintptr_t)at - (uintptr_t)from < size;
+}
+
+bool iocsq_is_own_stack(const void *at) {
+    long own = stack_of(__builtin_frame_address(0));
+    return own >= 0 ? own == stack_of(at) : is_on_thread_stack(at);
 }

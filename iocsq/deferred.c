@@ -65,12 +65,13 @@ static void expire_timers(void) {
     KTIMER *timer;
     while ((timer = next_timer()) != NULL && timer->DueTime <= iocsq_now()) {
         unset(timer);
+        iocsq_touch(&timer->Header, IOCSQ_CHANGES);
         timer->Header.SignalState = 1;
         if (timer->Period > 0) {
             set(timer, timer->DueTime + (uint64_t)timer->Period * MILLISECOND);
         }
-        if (timer->Dpc) {
-            queue_dpc(timer->Dpc);
+        if (timer->Dpc && queue_dpc(timer->Dpc)) {
+            timer->Dpc->Periodic = timer->Period > 0;
         }
         iocsq_state_changed();
     }
@@ -104,6 +105,7 @@ static void run_first_dpc(void) {
     first_dpc = dpc->Next;
     dpc->Queued = FALSE;
     running_dpc = dpc;
+    uint32_t part = iocsq_begin_part(dpc);
     iocsq_unlock_state();
     iocsq_begin_routine("a DPC");
     iocsq_set_irql(DISPATCH_LEVEL);
@@ -111,12 +113,16 @@ static void run_first_dpc(void) {
     freed_from = 0;
     iocsq_end_routine("a DPC", DISPATCH_LEVEL);
     iocsq_set_irql(PASSIVE_LEVEL);
-    iocsq_lock_state();
+    if (call.Periodic) { /* the timer stays on its processor, and its next DPC comes after this */
+        iocsq_touch(dpc, IOCSQ_LOOKS | IOCSQ_RELEASES);
+    }
+    iocsq_end_part(&running_dpc, part);
+    iocsq_lock_state_for(&first_dpc, IOCSQ_CHANGES);
     running_dpc = NULL;
     iocsq_state_changed();
     iocsq_unlock_state();
     iocsq_free_deleted_timers();
-    iocsq_lock_state();
+    iocsq_lock_state_for(&first_dpc, IOCSQ_CHANGES);
 }
 
 bool iocsq_is_under_way(const KDPC *dpc) {
@@ -130,7 +136,7 @@ static bool has_processor_work(void *of) {
 
 static void *run_processor(void *of) {
     iocsq_own.is_processor = true;
-    iocsq_lock_state();
+    iocsq_lock_state_for(&timers, IOCSQ_CHANGES);
     while (!ending) {
         timers_changed = false; /* here alone: who cancels a timer doesn't wait for the others */
         KTIMER *next = next_timer();
@@ -138,6 +144,9 @@ static void *run_processor(void *of) {
                                            : next->DueTime > now ? next->DueTime - now
                                                                  : 0;
         iocsq_await_time(has_processor_work, NULL, wait, "a timer or a DPC");
+        iocsq_touch(&timers, IOCSQ_CHANGES);
+        iocsq_touch(&first_dpc, IOCSQ_CHANGES);
+        iocsq_look_at_clock();
         expire_timers();
         if (first_dpc) {
             run_first_dpc();
@@ -155,7 +164,7 @@ static void need_processor(void) {
 
 /* ---- DPCs ---- */
 VOID NTAPI KeInitializeDpc(PRKDPC Dpc, PKDEFERRED_ROUTINE DeferredRoutine, PVOID DeferredContext) {
-    KDPC dpc = { DPC, NULL, DeferredRoutine, DeferredContext, NULL, NULL, FALSE };
+    KDPC dpc = { DPC, NULL, DeferredRoutine, DeferredContext, NULL, NULL, FALSE, FALSE };
     iocsq_expect_nonpaged(Dpc, "a DPC");
     *Dpc = dpc;
 }
@@ -175,10 +184,12 @@ VOID IocsqInitializeDpcRequest(PKDPC Dpc, PIO_DPC_ROUTINE DpcRoutine, PDEVICE_OB
 BOOLEAN NTAPI KeInsertQueueDpc(PRKDPC Dpc, PVOID SystemArgument1, PVOID SystemArgument2) {
     expect_dpc(Dpc, "KeInsertQueueDpc");
     iocsq_log_of_driver("KeInsertQueueDpc");
-    iocsq_lock_state();
+    iocsq_lock_state_for(&first_dpc, IOCSQ_CHANGES);
+    iocsq_touch(Dpc, IOCSQ_CHANGES | IOCSQ_RELEASES);
     need_processor();
     bool queued = queue_dpc(Dpc);
     if (queued) {
+        Dpc->Periodic = FALSE;
         Dpc->SystemArgument1 = SystemArgument1;
         Dpc->SystemArgument2 = SystemArgument2;
     }
@@ -188,7 +199,8 @@ BOOLEAN NTAPI KeInsertQueueDpc(PRKDPC Dpc, PVOID SystemArgument1, PVOID SystemAr
 
 BOOLEAN NTAPI KeRemoveQueueDpc(PRKDPC Dpc) {
     expect_dpc(Dpc, "KeRemoveQueueDpc");
-    iocsq_lock_state();
+    iocsq_lock_state_for(&first_dpc, IOCSQ_CHANGES);
+    iocsq_touch(Dpc, IOCSQ_SYNC);
     bool queued = Dpc->Queued;
     for (KDPC *at = first_dpc, *before = NULL; queued && at; before = at, at = at->Next) {
         if (at == Dpc) {
@@ -208,8 +220,10 @@ static bool no_dpc(void *of) {
 
 VOID NTAPI KeFlushQueuedDpcs(VOID) {
     iocsq_expect_irql(PASSIVE_LEVEL, "KeFlushQueuedDpcs");
-    iocsq_lock_state();
+    iocsq_lock_state_for(NULL, 0);
     iocsq_await(no_dpc, NULL, IOCSQ_FOR_EVER, "the DPCs");
+    iocsq_touch(&first_dpc, IOCSQ_CHANGES);
+    iocsq_touch(&running_dpc, IOCSQ_ACQUIRES);
     iocsq_unlock_state();
 }
 
@@ -230,7 +244,12 @@ BOOLEAN NTAPI KeSetTimerEx(PKTIMER Timer, LARGE_INTEGER DueTime, LONG Period, PK
         expect_dpc(Dpc, "KeSetTimer with one");
     }
     iocsq_log_of_driver("KeSetTimer");
-    iocsq_lock_state();
+    iocsq_lock_state_for(&timers, IOCSQ_CHANGES);
+    iocsq_touch(&Timer->Header, IOCSQ_SYNC);
+    if (Dpc) {
+        iocsq_touch(Dpc, IOCSQ_CHANGES | IOCSQ_RELEASES);
+    }
+    iocsq_pass_time_of_call();
     need_processor();
     bool was_set = unset(Timer);
     Timer->Header.SignalState = 0;
@@ -260,7 +279,10 @@ BOOLEAN NTAPI KeCancelTimer(PKTIMER Timer) {
     iocsq_expect_header(&Timer->Header, "KeCancelTimer");
     iocsq_log_of_driver("KeCancelTimer");
     iocsq_point();
-    iocsq_lock_state();
+    iocsq_lock_state_for(&timers, IOCSQ_CHANGES);
+    iocsq_touch(&Timer->Header, IOCSQ_SYNC);
+    iocsq_touch(&first_dpc, IOCSQ_CHANGES);
+    iocsq_look_at_clock();
     draw_expiry(Timer);
     bool was_set = unset(Timer);
     iocsq_unlock_state();
@@ -268,7 +290,7 @@ BOOLEAN NTAPI KeCancelTimer(PKTIMER Timer) {
 }
 
 BOOLEAN NTAPI KeReadStateTimer(PKTIMER Timer) {
-    iocsq_lock_state();
+    iocsq_lock_state_for(&Timer->Header, IOCSQ_LOOKS | IOCSQ_ACQUIRES);
     bool signaled = iocsq_is_signaled(&Timer->Header);
     iocsq_unlock_state();
     return signaled;
@@ -285,7 +307,8 @@ static void blame(const KDPC *dpc) {
 }
 
 void iocsq_check_no_deferred(const void *from, size_t size, const char *what) {
-    iocsq_lock_state();
+    iocsq_lock_state_for(&timers, IOCSQ_LOOKS);
+    iocsq_touch(&first_dpc, IOCSQ_LOOKS);
     for (const KTIMER *at = timers; at; at = at->Next) {
         if (lies_in(at, from, size)) {
             blame(at->Dpc);
@@ -308,7 +331,7 @@ static bool is_run_in(const void *from, size_t size) {
 }
 
 void iocsq_check_no_running(const void *from, size_t size, const char *what) {
-    iocsq_lock_state();
+    iocsq_lock_state_for(&first_dpc, IOCSQ_LOOKS);
     if (is_run_in(from, size)) {
         blame(running_dpc);
         iocsq_disagree(NULL, "%s, and a DPC in it runs", what);
@@ -317,7 +340,7 @@ void iocsq_check_no_running(const void *from, size_t size, const char *what) {
 }
 
 void iocsq_note_freed(const void *from, size_t size) {
-    iocsq_lock_state();
+    iocsq_lock_state_for(&first_dpc, IOCSQ_LOOKS);
     if (is_run_in(from, size)) {
         freed_size = size;
         freed_from = (uintptr_t)from;
@@ -337,7 +360,8 @@ void iocsq_expect_not_freed(const volatile void *at) {
 void iocsq_end_deferred(void) {
     iocsq_check_no_deferred(NULL, SIZE_MAX, "the driver was unloaded");
     iocsq_check_no_running(NULL, SIZE_MAX, "the driver was unloaded");
-    iocsq_lock_state();
+    iocsq_lock_state_for(&timers, IOCSQ_CHANGES);
+    iocsq_touch(&first_dpc, IOCSQ_CHANGES);
     ending = true;
     iocsq_state_changed();
     iocsq_unlock_state();

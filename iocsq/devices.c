@@ -40,7 +40,9 @@ NTSTATUS NTAPI IoCreateDevice(PDRIVER_OBJECT DriverObject, ULONG DeviceExtension
     made->object.NextDevice = DriverObject->DeviceObject;
     DriverObject->DeviceObject = &made->object;
     *DeviceObject = &made->object;
-    iocsq_lock_state();
+    iocsq_begin_memory(extension, DeviceExtensionSize);
+    iocsq_begin_memory(&made->object, sizeof made->object);
+    iocsq_lock_state_for(&devices, IOCSQ_CHANGES);
     made->next = devices;
     devices = made;
     iocsq_unlock_state();
@@ -71,7 +73,9 @@ bool iocsq_reference_device(PVOID object, int change) {
 static void free_device(struct device *device) {
     iocsq_end_queues_in(device->object.DeviceExtension, device->extension_size,
                         "IoDeleteDevice of a device");
-    iocsq_lock_state();
+    iocsq_end_memory(device->object.DeviceExtension, device->extension_size, "IoDeleteDevice",
+                     NULL);
+    iocsq_lock_state_for(&devices, IOCSQ_CHANGES);
     *link_of(device) = device->next;
     iocsq_unlock_state();
     free(device->object.DeviceExtension);
@@ -81,12 +85,13 @@ static void free_device(struct device *device) {
 void iocsq_hold_device(const void *object) {
     struct device *device = *link_of(object);
     if (device) {
+        iocsq_touch(device, IOCSQ_CHANGES);
         device->held++;
     }
 }
 
 void iocsq_let_go_of_device(const void *object) {
-    iocsq_lock_state();
+    iocsq_lock_state_for(object, IOCSQ_SYNC);
     struct device *device = *link_of(object);
     bool goes = device && --device->held == 0 && device->deleted;
     iocsq_unlock_state();
@@ -96,7 +101,7 @@ void iocsq_let_go_of_device(const void *object) {
 }
 
 static struct device *to_delete(const void *object) {
-    iocsq_lock_state();
+    iocsq_lock_state_for(&devices, IOCSQ_LOOKS);
     struct device *device = *link_of(object);
     iocsq_unlock_state();
     if (!device || device->deleted) {
@@ -129,7 +134,7 @@ VOID NTAPI IoDeleteDevice(PDEVICE_OBJECT DeviceObject) {
         at = &(*at)->NextDevice;
     }
     *at = DeviceObject->NextDevice;
-    iocsq_lock_state();
+    iocsq_lock_state_for(device, IOCSQ_SYNC);
     device->deleted = true;
     bool held = device->held > 0;
     iocsq_unlock_state();

@@ -28,7 +28,7 @@ static uint32_t number_of(const void *file) {
 
 uint32_t iocsq_open_files(void) {
     uint32_t count = 0;
-    iocsq_lock_state();
+    iocsq_lock_state_for(files, IOCSQ_LOOKS);
     for (uint32_t at = 0; at < IOCSQ_FILES; at++) {
         count += is_open[at];
     }
@@ -42,7 +42,7 @@ bool iocsq_is_file_cleaned(const void *file) {
 
 static bool is_noted(const bool *of_files, const void *file) {
     uint32_t number = iocsq_file_number(file);
-    iocsq_lock_state();
+    iocsq_lock_state_for(file, IOCSQ_LOOKS);
     bool noted = number < IOCSQ_FILES && of_files[number];
     iocsq_unlock_state();
     return noted;
@@ -61,6 +61,7 @@ bool iocsq_reference_file(PVOID object, int change) {
     if (number >= IOCSQ_FILES) {
         return false;
     }
+    iocsq_touch(&of_driver[number], IOCSQ_LOOKS | IOCSQ_RELEASES);
     of_driver[number] += change;
     if (of_driver[number] < 0) {
         iocsq_disagree(NULL, "ObDereferenceObject of file %u, more often than it was referenced",
@@ -74,6 +75,7 @@ bool iocsq_reference_file(PVOID object, int change) {
 void iocsq_take_over_reference(void) {
     iocsq_own.took_over = iocsq_own.handed_over != NULL;
     if (iocsq_own.took_over) {
+        iocsq_touch(&references[number_of(iocsq_own.handed_over)], IOCSQ_LOOKS);
         references[number_of(iocsq_own.handed_over)]--;
         iocsq_own.handed_over = NULL;
         iocsq_state_changed();
@@ -83,13 +85,14 @@ void iocsq_take_over_reference(void) {
 /* ---- File objects ---- */
 static PFILE_OBJECT new_file(void) {
     PFILE_OBJECT file = NULL;
-    iocsq_lock_state();
+    iocsq_lock_state_for(files, IOCSQ_CHANGES);
     for (uint32_t at = 0; at < IOCSQ_FILES && !file; at++) {
         if (!is_open[at]) {
             is_open[at] = is_closing[at] = true;
             is_cleaned[at] = false;
             file = &files[at];
             memset(file, 0, sizeof *file);
+            iocsq_begin_memory(file, sizeof *file);
         }
     }
     iocsq_unlock_state();
@@ -97,13 +100,13 @@ static PFILE_OBJECT new_file(void) {
 }
 
 static void free_file(PFILE_OBJECT file) {
-    iocsq_lock_state();
+    iocsq_lock_state_for(files, IOCSQ_CHANGES);
     is_open[number_of(file)] = false;
     iocsq_unlock_state();
 }
 
 static void set_closing(PFILE_OBJECT file, bool closing) {
-    iocsq_lock_state();
+    iocsq_lock_state_for(file, IOCSQ_CHANGES | IOCSQ_RELEASES);
     is_closing[number_of(file)] = closing;
     iocsq_unlock_state();
 }
@@ -125,12 +128,14 @@ PFILE_OBJECT IocsqOpen(PDRIVER_OBJECT Driver) {
 PFILE_OBJECT IocsqReferenceAny(VOID) {
     uint32_t from = iocsq_draw(iocsq_is_bounded() ? iocsq_open_files() + 1 : (uint32_t)IOCSQ_FILES);
     PFILE_OBJECT file = NULL;
-    iocsq_lock_state();
+    iocsq_lock_state_for(files, IOCSQ_CHANGES);
     for (uint32_t at = 0; at < IOCSQ_FILES && !file; at++) {
         uint32_t number = (from + at) % IOCSQ_FILES;
         if (is_open[number] && !is_closing[number]) {
             references[number]++;
             file = &files[number];
+            iocsq_touch(file, IOCSQ_LOOKS | IOCSQ_ACQUIRES);
+            iocsq_touch(&references[number], IOCSQ_LOOKS);
         }
     }
     iocsq_unlock_state();
@@ -140,7 +145,8 @@ PFILE_OBJECT IocsqReferenceAny(VOID) {
 
 BOOLEAN IocsqReference(PFILE_OBJECT File) {
     uint32_t number = number_of(File);
-    iocsq_lock_state();
+    iocsq_lock_state_for(File, IOCSQ_LOOKS | IOCSQ_ACQUIRES);
+    iocsq_touch(&references[number], IOCSQ_LOOKS);
     bool may = is_open[number] && !is_closing[number];
     references[number] += may;
     iocsq_unlock_state();
@@ -149,7 +155,7 @@ BOOLEAN IocsqReference(PFILE_OBJECT File) {
 }
 
 VOID IocsqRelease(PFILE_OBJECT File) {
-    iocsq_lock_state();
+    iocsq_lock_state_for(&references[number_of(File)], IOCSQ_LOOKS | IOCSQ_RELEASES);
     references[number_of(File)]--;
     iocsq_state_changed();
     iocsq_unlock_state();
@@ -177,7 +183,7 @@ static bool is_of_file(const struct irp_of_file *of) {
  * up: not one that came after the cleanup began, or that is cancelled. */
 static bool is_left_by_hand(const struct irp_of_file *of) {
     const struct iocsq_irp *i = of->irp;
-    iocsq_lock_state();
+    iocsq_lock_state_for(i, IOCSQ_LOOKS);
     bool left = is_of_file(of) && i->place == IOCSQ_HOME && i->irp.CancelRoutine && !i->late &&
                 !i->irp.Cancel;
     iocsq_unlock_state();
@@ -199,7 +205,7 @@ static void check_cleaned_by_hand(PFILE_OBJECT file) {
 
 static void check_cleaned(PFILE_OBJECT file) {
     uint32_t number = number_of(file);
-    iocsq_lock_state();
+    iocsq_lock_state_for(file, IOCSQ_CHANGES);
     is_cleaned[number] = true;
     iocsq_unlock_state();
     const struct iocsq_irp *left = iocsq_left_in_queues(number);
@@ -222,9 +228,10 @@ static bool is_dereferenced(void *file) {
 }
 
 static bool await_completion(struct irp_of_file *of, ULONG milliseconds) {
-    iocsq_lock_state();
+    iocsq_lock_state_for(NULL, 0);
     bool completed =
         iocsq_await(is_completed, of, milliseconds * (uint64_t)MILLISECOND, "a request");
+    iocsq_touch(of->irp, is_of_file(of) ? (unsigned)IOCSQ_ACQUIRES : (unsigned)IOCSQ_LOOKS);
     iocsq_unlock_state();
     return completed;
 }
@@ -244,10 +251,18 @@ static bool await_last_completion(struct irp_of_file *of) {
     return by_hand && await_completion(of, iocsq_patience());
 }
 
+void iocsq_release_file(const void *file) {
+    uint32_t number = iocsq_file_number(file);
+    if (number < IOCSQ_FILES) {
+        iocsq_touch(&references[number], IOCSQ_LOOKS | IOCSQ_RELEASES);
+    }
+}
+
 /* IRP_MJ_CLOSE comes once the file object is referenced no more, and its IRPs are completed. */
 static void wait_for_close(PFILE_OBJECT file) {
-    iocsq_lock_state();
+    iocsq_lock_state_for(NULL, 0);
     iocsq_await(is_released, file, IOCSQ_FOR_EVER, "a file object's release");
+    iocsq_touch(&references[number_of(file)], IOCSQ_CHANGES | IOCSQ_ACQUIRES);
     iocsq_unlock_state();
     for (uint32_t at = 0; at < iocsq_irp_count(); at++) {
         struct irp_of_file of = { iocsq_irp_number(at), file };
@@ -265,12 +280,14 @@ static void wait_for_close(PFILE_OBJECT file) {
                            iocsq_file_number(file), iocsq_place_name(of.irp));
         }
     }
+    iocsq_touch(&references[number_of(file)], IOCSQ_LOOKS | IOCSQ_ACQUIRES);
 }
 
 static void wait_for_dereference(PFILE_OBJECT file) {
-    iocsq_lock_state();
+    iocsq_lock_state_for(NULL, 0);
     bool dropped = iocsq_await(is_dereferenced, file, iocsq_patience() * (uint64_t)MILLISECOND,
                                "a file object's references");
+    iocsq_touch(&of_driver[number_of(file)], IOCSQ_CHANGES | IOCSQ_ACQUIRES);
     iocsq_unlock_state();
     if (!dropped) {
         iocsq_disagree(

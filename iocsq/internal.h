@@ -3,6 +3,8 @@
 #ifndef IOCSQ_INTERNAL_H
 #define IOCSQ_INTERNAL_H
 #include "iocsq_test.h"
+#include "hand.h"
+#include "traces.h"
 
 #include <stdatomic.h>
 #include <stdbool.h>
@@ -25,43 +27,6 @@ struct iocsq_step {
     uint32_t pass;
     const char *during; /* which call of the driver, or IoCancelIrp, it is part of; null: unknown */
     uint32_t thread;
-};
-
-/* What a driver does with the cancel routine that it sets itself (hand.c). */
-enum iocsq_hand_state {
-    IOCSQ_HAND_NONE,  /* it has set none yet */
-    IOCSQ_HAND_ARMED, /* the IRP has one */
-    IOCSQ_HAND_OWED,  /* a cancel took it, and the routine has to end the IRP */
-    IOCSQ_HAND_HELD,  /* the driver took it back, or the routine took the IRP out */
-    IOCSQ_HAND_DONE
-};
-struct iocsq_hand {
-    enum iocsq_hand_state state;
-    bool armed;           /* the driver has set a routine, since the IRP was in no IO_CSQ */
-    const char *left_out; /* why its steps are no schedule; null: they are one */
-    bool linked;          /* it is in a list */
-    bool begun, returned; /* its routine, which a cancel took */
-    uint32_t holder;      /* the pass that owes or holds it */
-    uint32_t arming;      /* the thread that has set the routine, and has yet to look at the flag;
-                           * 0: none */
-    bool released;        /* that thread has released its last lock since, */
-    uint32_t released_at; /* and this was the number of steps then */
-    bool started;         /* IoStartPacket has set it, and the IRP is the device's current one */
-    uint32_t by;          /* the pass by which it was set last, */
-    const void *set_at;   /* and the address to which that call returned */
-    uint32_t must_disarm; /* the thread that found the flag after it */
-    uint32_t looked;      /* a thread that read Irp->Cancel before; with the next three, 0: none */
-    uint32_t looked_at;   /* the number of steps then */
-    uint32_t looked_in;   /* which time it was that it had the cancel spin lock; 0: it hadn't */
-    bool saw;             /* what it read */
-    uint64_t told;        /* the threads, a bit each, to which IoSetCancelRoutine(Irp, NULL)
-                           * returned NULL since the routine was taken */
-    uint32_t doubtful;    /* a thread that was told so, and completed it; 0: none */
-    uint32_t doubtful_at; /* the number of steps before */
-    uint32_t thief;       /* a thread that completed what another owed; 0: none */
-    bool dangling;        /* its routine completed it while it was linked */
-    uint16_t flagging;    /* cancellers, a bit each, whose flag the queue beside has yet to note */
-    uint16_t flagged;     /* those whose flag was noted before that */
 };
 
 /* Memory of a request's own. */
@@ -138,6 +103,7 @@ struct iocsq_irp {
 struct iocsq_irp *iocsq_irp_at(const void *irp);                    /* null: no IRP */
 struct iocsq_irp *iocsq_irp_of_entry(const LIST_ENTRY *entry);      /* null: no entry of an IRP */
 struct iocsq_irp *iocsq_irp_number(uint32_t index);
+void iocsq_touch_irps(void); /* their table is changed */
 uint32_t iocsq_irp_count(void);                                     /* none above was ever used */
 struct iocsq_irp *iocsq_new_irp(int locations, bool own);           /* null: all are under way */
 void iocsq_end_own(struct iocsq_irp *i); /* one of the driver's own: the state's lock is held */
@@ -156,28 +122,6 @@ struct iocsq_irp *iocsq_in_use(const void *irp, const char *call); /* one that w
 /* IoCancelIrp by the IRP's sender, who may call it at any time, also once it is completed. */
 BOOLEAN iocsq_cancel(struct iocsq_irp *i);
 
-/* ---- hand.c: cancel routines of the driver's own, step by step ---- */
-bool iocsq_is_by_hand(void);    /* the driver has initialized no IO_CSQ (coverage.c) */
-bool iocsq_has_framework(void); /* a KMDF driver is loaded (wdf.c) */
-void iocsq_hand_look(struct iocsq_irp *i); /* the driver reads Irp->Cancel */
-/* IoSetCancelRoutine, which returns to this address, and whether it returned a routine. */
-void iocsq_hand_set(struct iocsq_irp *i, bool sets, bool found, const void *at);
-void iocsq_hand_flag(struct iocsq_irp *i);             /* IoCancelIrp sets Irp->Cancel, */
-void iocsq_hand_take(struct iocsq_irp *i, bool found); /* and takes the routine, */
-void iocsq_hand_begin(struct iocsq_irp *i);            /* which begins */
-void iocsq_hand_return(struct iocsq_irp *i);           /* and returns */
-/* The queue beside notes the flag of a canceller, and that it finds no routine. */
-void iocsq_hand_mark(struct iocsq_irp *i, uint32_t pass);
-void iocsq_hand_link(struct iocsq_irp *i, bool links); /* into a list, or out of it */
-void iocsq_hand_done(struct iocsq_irp *i);             /* IoCompleteRequest */
-void iocsq_hand_release(void); /* this thread has no lock any more */
-void iocsq_hand_let_go(void);  /* it leaves the driver */
-void iocsq_hand_start(struct iocsq_irp *i); /* IoStartPacket goes on to StartIo */
-/* From here on the IRP is in an IO_CSQ; `goes_on`: in which it was before. */
-void iocsq_hand_end(struct iocsq_irp *i, bool goes_on);
-uint32_t iocsq_hand_pass(const struct iocsq_irp *i); /* by which the steps say that it is held */
-void iocsq_explain_hand(const struct iocsq_irp *i);  /* what a report alone doesn't say */
-
 /* ---- undo.c ---- */
 struct iocsq_writes;
 struct iocsq_undo {
@@ -191,6 +135,7 @@ void iocsq_end_undo(struct iocsq_undo *undo); /* undoes them, the last one first
 uint64_t iocsq_count_not_undone(void);        /* writes, since a peek made too many */
 
 /* ---- accesses.c ---- */
+bool iocsq_is_thread_sanitized(void); /* the whole program is: then its library sees them */
 bool iocsq_sees_accesses(void); /* the driver is compiled so that its accesses to memory are seen */
 
 /* ---- builders.c ---- */
@@ -208,6 +153,7 @@ struct iocsq_sent {
 void iocsq_give_buffers(struct iocsq_irp *i, struct iocsq_sent sent);
 void iocsq_take_buffers(struct iocsq_irp *i); /* at its completion: with the next the state's lock
                                                * is held */
+void iocsq_end_buffers(const struct iocsq_irp *i, const void *place); /* by its completion there */
 void iocsq_check_buffers_untouched(const struct iocsq_irp *i);
 void iocsq_free_buffers(struct iocsq_irp *i);
 
@@ -234,6 +180,7 @@ bool iocsq_is_closing(const void *file);      /* its IRP_MJ_CLEANUP was sent */
 bool iocsq_is_cleaned(const void *file);      /* its IRP_MJ_CLEANUP was completed */
 /* With the next two the state's lock is held. The same of a file object. */
 bool iocsq_is_file_cleaned(const void *file);
+void iocsq_release_file(const void *file); /* an IRP of it is completed: IRP_MJ_CLOSE comes later */
 void iocsq_take_over_reference(void);         /* that this thread handed over (IocsqHandOver) */
 /* The driver's references, of ObReferenceObject. Whether it is a file object. */
 bool iocsq_reference_file(PVOID object, int change);
@@ -267,6 +214,13 @@ struct iocsq_own {
     bool is_processor;
     uint32_t removals;  /* of it before which iocsq might look ahead */
     int report_status;  /* with which its report ends the program; 0: IOCSQ_DISAGREES */
+    uint32_t part;         /* of traces.c */
+    uint32_t hushed;       /* the driver's accesses aren't watched: iocsq asks for itself alone */
+    uint32_t asked;        /* how often it asked for the time */
+    uint32_t completes;    /* how many calls of IoCompleteRequest it is in */
+    void *const *frames;   /* of the place that its report is about; null: of where it is */
+    int frame_count;
+    uintptr_t other_place; /* the other access of a race, for its report; 0: none */
     bool asks_alone; /* it is in an audit with null as peek context, and the driver itself has never
                       * used null */
     const char *during;  /* which call of the driver, or IoCancelIrp, it is in; null: none */
@@ -308,6 +262,7 @@ extern IOCSQ_COUNTS iocsq_counts;
 void iocsq_show_places(bool in_signal); /* the driver's calls of this thread, the innermost first */
 void iocsq_show_function(const char *how, uintptr_t address); /* a line: how, and where that is */
 void iocsq_prepare_places(void);
+int iocsq_frames(void **frames, int most); /* this thread's stack: how many there are */
 
 /* ---- schedule.c ---- */
 void iocsq_begin_steps(struct iocsq_irp *i);
@@ -343,6 +298,7 @@ struct iocsq_schedules_noted iocsq_schedules_noted(void);
 
 /* ---- turns.c ---- */
 bool iocsq_in_turns(void); /* whether one thread runs at a time */
+void iocsq_leave_turns(void); /* a run is left halfway */
 uint32_t iocsq_task_count(void); /* the threads that there were */
 void iocsq_forget_priorities(void); /* of the threads that there are: their memory isn't among the
                                      * variables */
@@ -352,16 +308,31 @@ void iocsq_yield(void); /* lets another thread run, in turns and else */
 /* `is_time`: the wait ends by the clock, which may come early; else the time is only a limit. */
 void iocsq_wait_in_turns(bool (*may_go)(void *), void *of, uint64_t nanoseconds, bool is_time,
                          const char *what);
-uint64_t iocsq_now_in_turns(void);
-void iocsq_pass_time_in_turns(uint64_t nanoseconds);
 void iocsq_end_turns_of_thread(void);
+bool iocsq_has_ended(void *thread); /* an IOCSQ_THREAD, in turns */
+
+/* ---- clock.c: of the turns ---- */
+uint64_t iocsq_now_in_turns(void);
+void iocsq_set_clock(uint64_t nanoseconds);
+void iocsq_pass_time_in_turns(uint64_t nanoseconds);
+void iocsq_pass_time_of_turn(void);
+void iocsq_pass_time_of_call(void); /* of one that asks for a time */
 
 /* ---- explore.c ---- */
 bool iocsq_is_bounded(void); /* in turns, and choices are made in the place of draws */
 void iocsq_begin_choices(void);
-/* One of this many options: 0, or what the plan of this run has here. The first `free` of them are
- * no preemptions. */
-uint32_t iocsq_choose(uint32_t options, uint32_t free);
+struct iocsq_options {
+    uint32_t count;
+    uint32_t free;  /* the first ones, which are no preemptions */
+    uint64_t point; /* by which thread, and whether it waits */
+    const uint32_t *threads; /* which go on by each; 0: the time does. Null: no thread goes on */
+};
+/* One of these options: 0, or what the plan of this run has here. */
+uint32_t iocsq_choose(const struct iocsq_options *of);
+uint32_t iocsq_choose_value(uint32_t values); /* below this, and each is free */
+/* All runs are made anew, since there are more points now: leaves this one. */
+void iocsq_begin_again(void);
+void iocsq_note_place(uintptr_t place); /* for the schedule's name: a point of this run */
 
 bool iocsq_is_by_priorities(void); /* threads go on by priorities, and what else is drawn is no
                                     * choice */
@@ -387,8 +358,9 @@ const struct iocsq_variables *iocsq_save_variables(void); /* null: a sanitizer's
 void iocsq_restore_variables(const struct iocsq_variables *saved);
 
 /* ---- waits.c ---- */
-void iocsq_lock_state(void); /* the lock of what threads wait for, of the IRPs' table and of the
-                              * file objects */
+/* The lock of what threads wait for, of the IRPs' table and of the file objects (traces.h has the
+ * same for one object alone). */
+void iocsq_lock_state(void);
 void iocsq_unlock_state(void);
 void iocsq_state_changed(void);
 /* Waits until it holds or the time is over, and returns whether it holds. The state's lock is held

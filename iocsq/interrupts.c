@@ -38,7 +38,8 @@ NTSTATUS NTAPI IoConnectInterrupt(PKINTERRUPT *InterruptObject, PKSERVICE_ROUTIN
     *made = interrupt;
     KeInitializeSpinLock(&made->own_lock);
     made->lock = SpinLock ? SpinLock : &made->own_lock;
-    iocsq_lock_state();
+    iocsq_lock_state_for(&interrupts, IOCSQ_CHANGES);
+    iocsq_touch(made, IOCSQ_CHANGES | IOCSQ_RELEASES); /* its routine comes after this */
     made->next = interrupts;
     interrupts = made;
     iocsq_unlock_state();
@@ -48,7 +49,7 @@ NTSTATUS NTAPI IoConnectInterrupt(PKINTERRUPT *InterruptObject, PKSERVICE_ROUTIN
 
 /* Takes it out of those that are connected. Whether it was. */
 static bool disconnect(const struct _KINTERRUPT *interrupt) {
-    iocsq_lock_state();
+    iocsq_lock_state_for(&interrupts, IOCSQ_CHANGES);
     struct _KINTERRUPT **link = &interrupts;
     while (*link && *link != interrupt) {
         link = &(*link)->next;
@@ -98,7 +99,7 @@ BOOLEAN NTAPI KeSynchronizeExecution(PKINTERRUPT Interrupt, PKSYNCHRONIZE_ROUTIN
 
 /* The one of this number among those that are connected, the last one first. */
 static struct _KINTERRUPT *connected(ULONG number) {
-    iocsq_lock_state();
+    iocsq_lock_state_for(&interrupts, IOCSQ_LOOKS);
     struct _KINTERRUPT *at = interrupts;
     for (; at && number > 0; number--) {
         at = at->next;
@@ -113,9 +114,11 @@ BOOLEAN IocsqInterrupt(ULONG Number) {
         return FALSE;
     }
     iocsq_log(NULL, "an interrupt");
+    uint32_t part = iocsq_begin_part(interrupt);
     KIRQL before = KeAcquireInterruptSpinLock(interrupt);
     BOOLEAN served = interrupt->routine(interrupt, interrupt->context);
     KeReleaseInterruptSpinLock(interrupt, before);
+    iocsq_end_part(&interrupts, part);
     return served;
 }
 
@@ -181,7 +184,7 @@ BOOLEAN NTAPI ExCancelTimer(PEX_TIMER Timer, PEXT_CANCEL_PARAMETERS Parameters) 
 /* Takes one out that was deleted, and that expires no more, and whose callback has returned. Null:
  * there is none. */
 static struct _EX_TIMER *take_over_timer(void) {
-    iocsq_lock_state();
+    iocsq_lock_state_for(&deleted_timers, IOCSQ_SYNC);
     struct _EX_TIMER **link = &deleted_timers;
     while (*link && ((*link)->timer.Set || iocsq_is_under_way(&(*link)->dpc))) {
         link = &(*link)->next;
@@ -213,7 +216,7 @@ BOOLEAN NTAPI ExDeleteTimer(PEX_TIMER Timer, BOOLEAN Cancel, BOOLEAN Wait,
         iocsq_disagree(NULL, "ExDeleteTimer that waits, and doesn't cancel");
     }
     BOOLEAN was_set = Cancel && KeCancelTimer(&Timer->timer);
-    iocsq_lock_state();
+    iocsq_lock_state_for(&deleted_timers, IOCSQ_SYNC);
     if (Parameters) {
         Timer->at_end = *Parameters;
     }

@@ -36,8 +36,12 @@ struct iocsq_irp *iocsq_irp_number(uint32_t index) {
     return &irps[index];
 }
 
+void iocsq_touch_irps(void) {
+    iocsq_touch(&irp_count, IOCSQ_CHANGES);
+}
+
 uint32_t iocsq_irp_count(void) {
-    iocsq_lock_state();
+    iocsq_lock_state_for(&irp_count, IOCSQ_LOOKS);
     uint32_t count = irp_count;
     iocsq_unlock_state();
     return count;
@@ -72,6 +76,7 @@ static struct iocsq_irp *known(const void *irp, const char *call) {
 
 struct iocsq_irp *iocsq_in_use(const void *irp, const char *call) {
     struct iocsq_irp *i = known(irp, call);
+    iocsq_touch(i, IOCSQ_LOOKS);
     if (i->place == IOCSQ_DONE) {
         iocsq_disagree(i, "%s of irp %u, which was %s", call, i->index,
                        i->own ? "freed" : "completed");
@@ -152,9 +157,13 @@ static void begin_irp(struct iocsq_irp *i, int locations) {
 }
 
 struct iocsq_irp *iocsq_new_irp(int locations, bool own) {
-    iocsq_lock_state();
+    iocsq_lock_state_for(&irp_count, IOCSQ_CHANGES);
     struct iocsq_irp *i = find_unused();
     if (i) {
+        iocsq_touch(i, IOCSQ_CHANGES);
+        iocsq_begin_memory(&i->irp, sizeof i->irp);
+        iocsq_begin_memory(i->stack, sizeof i->stack);
+        iocsq_begin_memory(&i->mdl, sizeof i->mdl);
         if (i->use > 0) {
             iocsq_check_untouched(i);
         }
@@ -174,6 +183,7 @@ struct iocsq_irp *iocsq_new_irp(int locations, bool own) {
 
 /* ---- The way down ---- */
 static void mark_pending(struct iocsq_irp *i) {
+    iocsq_touch(i, IOCSQ_CHANGES);
     IoGetCurrentIrpStackLocation(&i->irp)->Control |= SL_PENDING_RETURNED;
     atomic_fetch_or(&i->pending, (uint64_t)1 << i->irp.CurrentLocation);
 }
@@ -193,6 +203,7 @@ VOID NTAPI IoMarkIrpPending(PIRP Irp) {
 /* What a dispatch routine answers, against what it did with the IRP at this location. The IRP may
  * be in another use by now: then nothing is known of it. */
 static void check_answer(const struct iocsq_irp *i, uint32_t use, int location, NTSTATUS status) {
+    iocsq_touch(i, IOCSQ_LOOKS);
     uint64_t pending = i->pending;
     bool marked = pending >> location & 1;
     if (pending >> 32 != use || i->passed_on) {
@@ -248,6 +259,7 @@ NTSTATUS NTAPI IofCallDriver(PDEVICE_OBJECT DeviceObject, PIRP Irp) {
         iocsq_disagree(i, "IoCallDriver of irp %u, which still has a cancel routine", i->index);
     }
     iocsq_log(i, "IoCallDriver(irp %u)", i->index);
+    iocsq_touch(i, IOCSQ_CHANGES);
     i->passed_on = true;
     iocsq_point();
     return iocsq_dispatch(DeviceObject, i);
@@ -359,8 +371,12 @@ void iocsq_check_pending(const struct iocsq_irp *i) {
     }
 }
 
-static void finish(struct iocsq_irp *i) {
-    iocsq_lock_state();
+static void finish(struct iocsq_irp *i, const void *place) {
+    iocsq_lock_state_for(i, IOCSQ_CHANGES | IOCSQ_RELEASES);
+    iocsq_release_file(i->file);
+    iocsq_end_memory(&i->irp, sizeof i->irp, "IoCompleteRequest", place);
+    iocsq_end_memory(i->stack, sizeof i->stack, "IoCompleteRequest", place);
+    iocsq_end_buffers(i, place);
     if (atomic_exchange(&i->place, IOCSQ_DONE) == IOCSQ_DONE) {
         iocsq_disagree(i, "IoCompleteRequest of irp %u, which was completed before", i->index);
     }
@@ -382,14 +398,15 @@ static void finish(struct iocsq_irp *i) {
     iocsq_unlock_state();
 }
 
-VOID NTAPI IofCompleteRequest(PIRP Irp, CCHAR PriorityBoost) {
-    struct iocsq_irp *i = known(Irp, "IoCompleteRequest");
-    (void)PriorityBoost;
+/* The driver completes it from this place. */
+static void complete(struct iocsq_irp *i, const void *place) {
+    iocsq_touch(i, IOCSQ_CHANGES);
     iocsq_hand_done(i);
     check_completion(i);
-    NTSTATUS status = Irp->IoStatus.Status;
+    NTSTATUS status = i->irp.IoStatus.Status;
     bool stayed = i->stay != 0; /* another thread may end the stay before this one does */
     iocsq_point();
+    iocsq_touch(i, IOCSQ_CHANGES);
     if (stayed || i->stay) {
         iocsq_complete_held(i, status);
     }
@@ -406,7 +423,14 @@ VOID NTAPI IofCompleteRequest(PIRP Irp, CCHAR PriorityBoost) {
         iocsq_disagree(i, "irp %u is of the driver's own, and no completion routine kept it "
                           "(STATUS_MORE_PROCESSING_REQUIRED)", i->index);
     }
-    finish(i);
+    finish(i, place);
+}
+
+VOID NTAPI IofCompleteRequest(PIRP Irp, CCHAR PriorityBoost) {
+    (void)PriorityBoost;
+    iocsq_own.completes++;
+    complete(known(Irp, "IoCompleteRequest"), __builtin_return_address(0));
+    iocsq_own.completes--;
 }
 
 /* ---- IRPs of the driver's own ---- */
@@ -441,6 +465,7 @@ static struct iocsq_irp *own_irp(PIRP irp, const char *call) {
 }
 
 void iocsq_end_own(struct iocsq_irp *i) {
+    iocsq_touch(i, IOCSQ_CHANGES);
     i->use++;
     i->pending = (uint64_t)i->use << 32;
     i->place = IOCSQ_DONE;
@@ -450,15 +475,16 @@ void iocsq_end_own(struct iocsq_irp *i) {
 }
 
 VOID NTAPI IoFreeIrp(PIRP Irp) {
-    iocsq_lock_state();
+    iocsq_lock_state_for(&irp_count, IOCSQ_CHANGES);
     struct iocsq_irp *i = own_irp(Irp, "IoFreeIrp");
+    iocsq_end_memory(&i->irp, sizeof i->irp, "IoFreeIrp", __builtin_return_address(0));
     iocsq_log(i, "IoFreeIrp(irp %u)", i->index);
     iocsq_end_own(i);
     iocsq_unlock_state();
 }
 
 VOID NTAPI IoReuseIrp(PIRP Irp, NTSTATUS Status) {
-    iocsq_lock_state();
+    iocsq_lock_state_for(Irp, IOCSQ_CHANGES);
     struct iocsq_irp *i = own_irp(Irp, "IoReuseIrp");
     iocsq_log_sent(i, "IoReuseIrp(irp %u)", i->index);
     i->use++;

@@ -177,5 +177,6 @@ VOID IocsqUnload(PDRIVER_OBJECT Driver) {
     iocsq_check_links_deleted();
     iocsq_check_memory_freed();
     iocsq_end_queues();
+    iocsq_report_race();
     free((struct loaded *)(void *)Driver);
 }

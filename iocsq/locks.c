@@ -134,6 +134,7 @@ static bool try_word(ULONG_PTR *word, const char *what) {
         __atomic_compare_exchange_n(word, &expected, mine, 0, __ATOMIC_SEQ_CST, __ATOMIC_SEQ_CST);
     if (taken) {
         iocsq_note_lock(word);
+        iocsq_touch(word, IOCSQ_SYNC);
     }
     return taken;
 }
@@ -145,11 +146,15 @@ static bool take_word(ULONG_PTR *word, const char *what, bool waits) {
     while (!(taken = try_word(word, what)) && waits) {
         wait_for_word(word, iocsq_thread(), what);
     }
+    if (!taken) {
+        iocsq_touch(word, IOCSQ_LOOKS);
+    }
     return taken;
 }
 
 static void leave_word(ULONG_PTR *word) {
     iocsq_forget_lock(word);
+    iocsq_touch(word, IOCSQ_SYNC);
     __atomic_store_n(word, UNTAKEN, __ATOMIC_SEQ_CST);
 }
 
@@ -190,6 +195,7 @@ BOOLEAN FASTCALL KeTryToAcquireSpinLockAtDpcLevel(PKSPIN_LOCK SpinLock) {
 
 BOOLEAN FASTCALL KeTestSpinLock(PKSPIN_LOCK SpinLock) {
     iocsq_point();
+    iocsq_touch(SpinLock, IOCSQ_LOOKS);
     return known_owner(SpinLock, "a spin lock") == UNTAKEN;
 }
 
@@ -243,7 +249,7 @@ static uint32_t place_of(const KLOCK_QUEUE_HANDLE *handle) {
 }
 
 static void begin_handle(PKLOCK_QUEUE_HANDLE handle) {
-    iocsq_lock_state();
+    iocsq_lock_state_for(handle, IOCSQ_CHANGES);
     uint32_t used = place_of(handle), at = place_of(NULL);
     if (used < HANDLES) {
         iocsq_disagree(NULL,
@@ -260,7 +266,7 @@ static void begin_handle(PKLOCK_QUEUE_HANDLE handle) {
 }
 
 static void end_handle(const KLOCK_QUEUE_HANDLE *handle) {
-    iocsq_lock_state();
+    iocsq_lock_state_for(handle, IOCSQ_CHANGES);
     uint32_t at = place_of(handle);
     if (at == HANDLES || handles[at].thread != iocsq_thread()) {
         iocsq_disagree(NULL,

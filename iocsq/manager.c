@@ -47,7 +47,8 @@ static struct iocsq_irp *make_irp(PFILE_OBJECT file, UCHAR major) {
         iocsq_fail("there is no major function %02x", major);
     }
     struct iocsq_irp *i = iocsq_new_irp(top_of(file->DeviceObject)->StackSize, false);
-    iocsq_lock_state();
+    iocsq_lock_state_for(i ? (const void *)i : file, IOCSQ_CHANGES);
+    iocsq_touch(file, IOCSQ_LOOKS | IOCSQ_ACQUIRES);
     if (i) {
         i->file = file;
         i->major = major;
@@ -66,7 +67,7 @@ static struct iocsq_irp *make_irp(PFILE_OBJECT file, UCHAR major) {
 }
 
 static void check_after_dispatch(struct iocsq_irp *i, NTSTATUS status, KIRQL before) {
-    iocsq_lock_state();
+    iocsq_lock_state_for(i, IOCSQ_CHANGES);
     bool done = i->place == IOCSQ_DONE;
     i->answered = true;
     i->answer = status;
@@ -178,7 +179,7 @@ static const char at_dispatch[] =
 BOOLEAN IocsqCancel(IOCSQ_REQUEST *Request) {
     struct iocsq_irp *i = &Request->irp;
     bool may = iocsq_is_bounded() && iocsq_is_by_hand() && !iocsq_policy_of(i).PassiveCancels;
-    bool raises = may && iocsq_choose(2, 2) == 1;
+    bool raises = may && iocsq_choose_value(2) == 1;
     KIRQL before = raises ? KfRaiseIrql(DISPATCH_LEVEL) : KeGetCurrentIrql();
     iocsq_set_hint(raises ? at_dispatch : NULL);
     BOOLEAN found = iocsq_cancel(i);
@@ -192,8 +193,9 @@ bool iocsq_is_done(void *irp) {
 }
 
 bool iocsq_wait_for(struct iocsq_irp *i, ULONG milliseconds) {
-    iocsq_lock_state();
+    iocsq_lock_state_for(NULL, 0);
     bool done = iocsq_await(iocsq_is_done, i, milliseconds * (uint64_t)MILLISECOND, "a request");
+    iocsq_touch(i, IOCSQ_LOOKS | (done ? IOCSQ_ACQUIRES : 0));
     iocsq_unlock_state();
     return done;
 }
@@ -203,8 +205,10 @@ BOOLEAN IocsqWait(IOCSQ_REQUEST *Request, ULONG Milliseconds) {
 }
 
 NTSTATUS IocsqStatus(IOCSQ_REQUEST *Request) {
-    iocsq_lock_state();
-    NTSTATUS status = iocsq_is_done(&Request->irp) ? Request->irp.status : STATUS_PENDING;
+    iocsq_lock_state_for(NULL, 0);
+    bool done = iocsq_is_done(&Request->irp);
+    NTSTATUS status = done ? Request->irp.status : STATUS_PENDING;
+    iocsq_touch(Request, IOCSQ_LOOKS | (done ? IOCSQ_ACQUIRES : 0)); /* as IocsqWait */
     iocsq_unlock_state();
     return status;
 }
@@ -215,7 +219,9 @@ ULONG_PTR IocsqInformation(IOCSQ_REQUEST *Request) {
 
 VOID IocsqFree(IOCSQ_REQUEST *Request) {
     struct iocsq_irp *i = &Request->irp;
-    iocsq_lock_state();
+    iocsq_lock_state_for(i, IOCSQ_CHANGES);
+    iocsq_touch_irps();
+    iocsq_touch(i, IOCSQ_CHANGES);
     if (i->place != IOCSQ_DONE) {
         iocsq_fail("IocsqFree of irp %u, which was not completed", i->index);
     }
@@ -233,7 +239,7 @@ VOID IocsqComplain(IOCSQ_REQUEST *Request, const char *Text) {
  * cancels, and for what a cleanup left: that should be reported. Then it stays until end_cancel, as
  * a caller of IoCancelIrp has to see to. */
 static bool begin_cancel(struct iocsq_irp *i) {
-    iocsq_lock_state();
+    iocsq_lock_state_for(i, IOCSQ_CHANGES);
     bool may = i->used && !i->own && i->file && i->place != IOCSQ_DONE && !i->irp.Cancel &&
                i->major != IRP_MJ_CLEANUP && !iocsq_is_file_cleaned(i->file);
     i->cancels += may;
@@ -242,7 +248,7 @@ static bool begin_cancel(struct iocsq_irp *i) {
 }
 
 static void end_cancel(struct iocsq_irp *i) {
-    iocsq_lock_state();
+    iocsq_lock_state_for(i, IOCSQ_CHANGES);
     i->cancels--;
     iocsq_unlock_state();
 }
@@ -300,7 +306,7 @@ void iocsq_check_all_completed(void) {
         if (i->used && !i->own && !iocsq_wait_for(i, iocsq_patience())) {
             iocsq_disagree(i, "irp %u %s, and was never completed", i->index, iocsq_place_name(i));
         }
-        iocsq_lock_state();
+        iocsq_lock_state_for(i, IOCSQ_LOOKS);
         if (i->place == IOCSQ_DONE) {
             iocsq_check_untouched(i);
         }

@@ -47,7 +47,9 @@ static void *take_memory(size_t size, ULONG tag, bool paged) {
         free(made);
         return NULL;
     }
-    iocsq_lock_state();
+    iocsq_lock_state_for(at, IOCSQ_CHANGES);
+    iocsq_touch(&paged_count, paged ? IOCSQ_CHANGES : IOCSQ_LOOKS);
+    iocsq_begin_memory(at, size);
     struct allocation allocation = { *bucket_of(at), at, size, tag, paged };
     *made = allocation;
     *bucket_of(at) = made;
@@ -93,7 +95,7 @@ PVOID NTAPI ExAllocatePool2(POOL_FLAGS Flags, SIZE_T NumberOfBytes, ULONG Tag) {
 
 static struct allocation *take_allocation(const void *at) {
     struct allocation **link = bucket_of(at);
-    iocsq_lock_state();
+    iocsq_lock_state_for(at, IOCSQ_CHANGES);
     while (*link && (*link)->at != at) {
         link = &(*link)->next;
     }
@@ -111,10 +113,11 @@ static bool lies_in(const void *at, const void *from, size_t size) {
 }
 
 void iocsq_expect_nonpaged(const void *at, const char *what) {
+    iocsq_touch(&paged_count, IOCSQ_LOOKS);
     if (paged_count == 0) {
         return;
     }
-    iocsq_lock_state();
+    iocsq_lock_state_for(&paged_count, IOCSQ_CHANGES);
     for (uint32_t bucket = 0; bucket < BUCKETS; bucket++) {
         for (const struct allocation *of = allocations[bucket]; of; of = of->next) {
             if (of->paged && lies_in(at, of->at, of->size)) {
@@ -126,7 +129,7 @@ void iocsq_expect_nonpaged(const void *at, const char *what) {
 }
 
 void iocsq_check_no_lookaside(const void *from, size_t size) {
-    iocsq_lock_state();
+    iocsq_lock_state_for(&lookasides, IOCSQ_LOOKS);
     for (PNPAGED_LOOKASIDE_LIST at = lookasides; at; at = at->Next) {
         if (lies_in(at, from, size)) {
             iocsq_disagree(
@@ -169,7 +172,7 @@ static void keep(struct allocation freed) {
         free(freed.at);
         return;
     }
-    iocsq_lock_state();
+    iocsq_lock_state_for(&kept_next, IOCSQ_LOOKS);
     struct allocation *place = &kept[kept_next++ % KEPT];
     if (place->at) {
         expect_untouched(place);
@@ -190,7 +193,8 @@ static void let_go_of_kept(void) {
     }
 }
 
-static void free_pool(void *at, const ULONG *tag) {
+/* By a call that the driver makes from this place. */
+static void free_pool(void *at, const ULONG *tag, const void *place) {
     struct allocation *found = take_allocation(at);
     if (!found) {
         iocsq_disagree(NULL, "ExFreePool of %s",
@@ -207,17 +211,18 @@ static void free_pool(void *at, const ULONG *tag) {
     iocsq_note_freed(at, found->size);
     iocsq_check_no_resource(at, found->size, "ExFreePool of memory");
     iocsq_end_queues_in(at, found->size, "ExFreePool of memory");
+    iocsq_end_memory(at, found->size, "ExFreePool", place);
     memset(at, IOCSQ_GONE, found->size); /* for whoever uses it later: not by chance what it was */
     keep(*found);
     free(found);
 }
 
 VOID NTAPI ExFreePoolWithTag(PVOID P, ULONG Tag) {
-    free_pool(P, &Tag);
+    free_pool(P, &Tag, __builtin_return_address(0));
 }
 
 VOID NTAPI ExFreePool(PVOID P) {
-    free_pool(P, NULL);
+    free_pool(P, NULL, __builtin_return_address(0));
 }
 
 void iocsq_check_memory_freed(void) {
@@ -240,7 +245,7 @@ static void initialize(PNPAGED_LOOKASIDE_LIST list, NPAGED_LOOKASIDE_LIST fields
         iocsq_disagree(
             NULL, "a lookaside list has one of the routines Allocate and Free, and not the other");
     }
-    iocsq_lock_state();
+    iocsq_lock_state_for(&lookasides, IOCSQ_CHANGES);
     fields.Next = lookasides;
     *list = fields;
     lookasides = list;
@@ -272,7 +277,7 @@ static PNPAGED_LOOKASIDE_LIST *link_of(const NPAGED_LOOKASIDE_LIST *list) {
 }
 
 static void expect_initialized(const NPAGED_LOOKASIDE_LIST *list, const char *call) {
-    iocsq_lock_state();
+    iocsq_lock_state_for(&lookasides, IOCSQ_LOOKS);
     bool known = *link_of(list) != NULL;
     iocsq_unlock_state();
     if (!known) {
@@ -294,7 +299,7 @@ VOID NTAPI ExFreeToNPagedLookasideList(PNPAGED_LOOKASIDE_LIST Lookaside, PVOID E
 
 VOID NTAPI ExDeleteNPagedLookasideList(PNPAGED_LOOKASIDE_LIST Lookaside) {
     expect_initialized(Lookaside, "the deletion");
-    iocsq_lock_state();
+    iocsq_lock_state_for(&lookasides, IOCSQ_CHANGES);
     *link_of(Lookaside) = Lookaside->Next;
     iocsq_unlock_state();
 }

@@ -144,6 +144,7 @@ static void start(PDEVICE_OBJECT device, PIRP irp) {
 
 /* It is the device's from now on. With a cancel routine, the cancel spin lock is held. */
 static void make_current(PDEVICE_OBJECT device, PIRP irp, bool cancelable) {
+    iocsq_touch(&device->CurrentIrp, IOCSQ_CHANGES | IOCSQ_WORD);
     device->CurrentIrp = irp;
     if (cancelable && device->StartIoNonCancelable) {
         IoSetCancelRoutine(irp, NULL);
@@ -205,6 +206,7 @@ static void start_next(PDEVICE_OBJECT device, BOOLEAN cancelable, const ULONG *k
     if (cancelable) {
         IoAcquireCancelSpinLock(&before);
     }
+    iocsq_touch(&device->CurrentIrp, IOCSQ_CHANGES | IOCSQ_WORD);
     device->CurrentIrp = NULL;
     PKDEVICE_QUEUE_ENTRY entry = key ? KeRemoveByKeyDeviceQueue(&device->DeviceQueue, *key)
                                      : KeRemoveDeviceQueue(&device->DeviceQueue);

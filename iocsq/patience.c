@@ -27,7 +27,10 @@ BOOLEAN IocsqExpectEnd(IOCSQ_REQUEST *Request) {
         if (iocsq_wait_for(i, rest_of(i, within))) {
             return TRUE;
         }
-        if (!cancelled && policy.Waits && policy.Waits(&i->irp)) {
+        iocsq_own.hushed++;
+        bool waits = !cancelled && policy.Waits && policy.Waits(&i->irp);
+        iocsq_own.hushed--;
+        if (waits) {
             return FALSE;
         }
         IocsqPause(BETWEEN);

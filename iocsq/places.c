@@ -40,8 +40,9 @@ static void add_address(char *command, size_t size, uintptr_t address) {
 /* That of the stack. An address there is that of the instruction after a call, but for the one at
  * which a signal came. */
 static void make_command(char *command, size_t size, bool in_signal) {
-    void *frames[FRAMES];
-    int count = backtrace(frames, FRAMES);
+    void *here[FRAMES];
+    void *const *frames = iocsq_own.frames ? iocsq_own.frames : here;
+    int count = iocsq_own.frames ? iocsq_own.frame_count : backtrace(here, FRAMES);
     begin_command(command, size);
     for (int at = 1; at < count; at++) {
         bool is_exact = in_signal && !is_in_program(frames[at - 1]);
@@ -142,6 +143,10 @@ static void print_address(const char *how, uintptr_t address, bool is_call) {
     }
 }
 
+int iocsq_frames(void **frames, int most) {
+    return backtrace(frames, most);
+}
+
 void iocsq_show_function(const char *how, uintptr_t address) {
     print_address(how, address, false);
 }
@@ -151,6 +156,9 @@ void iocsq_show_places(bool in_signal) {
         print_address("The cancel routine was set at", (uintptr_t)iocsq_own.set_at - 1, true);
     }
     print_stack(in_signal);
+    if (iocsq_own.other_place) {
+        print_address("the other at", iocsq_own.other_place - 1, true);
+    }
     if (iocsq_own.blamed) {
         iocsq_show_function("the callback at", iocsq_own.blamed);
     }

@@ -31,6 +31,7 @@ static struct held enter(struct iocsq_queue *q) {
     iocsq_point();
     iocsq_cover_call(q, IOCSQ_ACQUIRE);
     q->csq->CsqAcquireLock(q->csq, &held.irql);
+    iocsq_touch(q, IOCSQ_CHANGES);
     check_lock(q, &held);
     held.watch_before = iocsq_watch_lock(q->lock);
     iocsq_point();
@@ -47,6 +48,8 @@ static void leave(struct iocsq_queue *q, struct held held, bool last) {
         iocsq_disagree(NULL, "a callback of the queue released its lock");
     }
     iocsq_cover_call(q, IOCSQ_RELEASE);
+    iocsq_touch(q, IOCSQ_CHANGES);
+    iocsq_touch(&q->calls, IOCSQ_LOOKS);
     q->inside = 0;
     q->calls -= last;
     csq->CsqReleaseLock(csq, held.irql);
@@ -100,12 +103,14 @@ static void remove_by_driver(struct iocsq_queue *q, struct iocsq_irp *i) {
 static void complete_by_driver(struct iocsq_queue *q, struct iocsq_irp *i) {
     uint32_t completions = i->completions;
     iocsq_point();
+    iocsq_touch(i, IOCSQ_CHANGES);
     iocsq_log(i, "  CsqCompleteCanceledIrp(irp %u)", i->index);
     i->call_of = q;
     iocsq_cover_call(q, IOCSQ_COMPLETE); /* first, as the driver may free the queue with the
                                           * completion */
     iocsq_cover_cancelled(q);
     q->csq->CsqCompleteCanceledIrp(q->csq, &i->irp);
+    iocsq_touch(i, IOCSQ_LOOKS);
     if (completions == i->completions && !q->policy.CompletesLater) {
         iocsq_disagree(i, "CsqCompleteCanceledIrp returned, and irp %u was not completed",
                        i->index);
@@ -130,6 +135,7 @@ bool iocsq_cancel_queued(struct iocsq_irp *i) {
         return false;
     }
     struct iocsq_queue *q = iocsq_queue_at(claim.reference->index);
+    iocsq_touch(&q->calls, IOCSQ_LOOKS);
     q->calls++;
     iocsq_long_point(2); /* the routine is taken, and has yet to run */
     iocsq_log(i, "  the queue's cancel routine of irp %u", i->index);
@@ -144,6 +150,7 @@ bool iocsq_cancel_queued(struct iocsq_irp *i) {
 /* ---- Insertion ---- */
 /* A driver may insert an IRP again that a removal got, and that isn't completed. */
 static void check_insert(struct iocsq_irp *i) {
+    iocsq_touch(i, IOCSQ_CHANGES);
     if (i->irp.CancelRoutine) {
         iocsq_disagree(i, "IoCsqInsertIrp of irp %u, which has a cancel routine of the driver",
                        i->index);
@@ -247,13 +254,16 @@ static bool insert_into_reference(struct iocsq_queue *q, struct iocsq_irp *i, PV
                                   bool again) {
     struct iocsq_claim none;
     uint32_t file = iocsq_file_number(iocsq_irp_file(i));
+    iocsq_own.hushed++;
     bool first = q->policy.Place && q->policy.Place(&i->irp, insert_context) != 0;
+    iocsq_own.hushed--;
     bool goes_on = again && iocsq_reference_goes_on(&q->reference, i, file);
     if (!goes_on) {
         expect_held(i, !again || iocsq_reference_leave(i));
         iocsq_reference_join(&q->reference, i);
     }
     iocsq_point();
+    iocsq_touch(i, IOCSQ_CHANGES);
     expect_held(i, i->stay != 0);
     /* A cancel sets the IRP's flag, then looks for its stay; here the stay comes first. So one of
      * the two sees it. */
@@ -276,6 +286,7 @@ static void check_flag_stays(const struct iocsq_irp *i) {
 NTSTATUS NTAPI IoCsqInsertIrpEx(PIO_CSQ Csq, PIRP Irp, PIO_CSQ_IRP_CONTEXT Context,
                                 PVOID InsertContext) {
     struct iocsq_queue *q = iocsq_queue_of(Csq);
+    iocsq_touch(&q->calls, IOCSQ_LOOKS);
     q->calls++;
     struct iocsq_irp *i = iocsq_known(Irp, "IoCsqInsertIrp of");
     struct held held = enter(q);
@@ -356,6 +367,7 @@ static void check_peek_context(const struct iocsq_queue *q, PVOID context) {
 PIRP NTAPI IoCsqRemoveNextIrp(PIO_CSQ Csq, PVOID PeekContext) {
     struct iocsq_queue *q = iocsq_queue_of(Csq);
     check_peek_context(q, PeekContext);
+    iocsq_touch(&q->calls, IOCSQ_LOOKS);
     q->calls++;
     struct held held = enter(q);
     struct iocsq_search s = { .q = q, .context = PeekContext, .when = "in IoCsqRemoveNextIrp" };
@@ -397,6 +409,7 @@ static struct iocsq_irp *irp_of_context(PIO_CSQ csq, PIO_CSQ_IRP_CONTEXT context
 
 PIRP NTAPI IoCsqRemoveIrp(PIO_CSQ Csq, PIO_CSQ_IRP_CONTEXT Context) {
     struct iocsq_queue *q = iocsq_queue_of(Csq);
+    iocsq_touch(&q->calls, IOCSQ_LOOKS);
     q->calls++;
     struct held held = enter(q);
     struct iocsq_irp *i = irp_of_context(Csq, Context);
@@ -413,7 +426,9 @@ PIRP NTAPI IoCsqRemoveIrp(PIO_CSQ Csq, PIO_CSQ_IRP_CONTEXT Context) {
 
 /* ---- Completion, of an IRP that stays in a queue ---- */
 void iocsq_complete_held(struct iocsq_irp *i, NTSTATUS status) {
+    iocsq_touch(i, IOCSQ_CHANGES);
     if (i->call_of) {
+        iocsq_touch(&i->call_of->calls, IOCSQ_LOOKS);
         i->call_of->calls--;
         i->call_of = NULL;
     }

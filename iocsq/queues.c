@@ -11,6 +11,7 @@ static pthread_mutex_t queues_mutex = PTHREAD_MUTEX_INITIALIZER; /* of the two, 
 static IOCSQ_POLICY first_policy; /* of queues that are initialized from now on */
 
 struct iocsq_queue *iocsq_queue_at(uint32_t index) {
+    iocsq_touch(&queue_count, IOCSQ_LOOKS);
     pthread_mutex_lock(&queues_mutex);
     struct iocsq_queue *q = queues[index];
     pthread_mutex_unlock(&queues_mutex);
@@ -27,6 +28,7 @@ static struct iocsq_queue *find(const IO_CSQ *csq) {
 }
 
 struct iocsq_queue *iocsq_queue_of(PIO_CSQ csq) {
+    iocsq_touch(&queue_count, IOCSQ_LOOKS);
     pthread_mutex_lock(&queues_mutex);
     struct iocsq_queue *found = find(csq);
     pthread_mutex_unlock(&queues_mutex);
@@ -52,6 +54,8 @@ PFILE_OBJECT iocsq_irp_file(struct iocsq_irp *i) {
 /* ---- The end of a queue's memory ---- */
 /* `its`: what the queue is to what ends. */
 static void forget(struct iocsq_queue *q, const char *what, const char *its) {
+    iocsq_touch(&queue_count, IOCSQ_CHANGES);
+    iocsq_touch(&q->calls, IOCSQ_CHANGES);
     uint32_t listed = iocsq_reference_next(&q->reference, CSQ_ANY, CSQ_ANY);
     if (listed != CSQ_ANY) {
         const struct iocsq_irp *i = q->reference.by_slot[listed];
@@ -64,6 +68,7 @@ static void forget(struct iocsq_queue *q, const char *what, const char *its) {
 }
 
 static void forget_in(const void *from, size_t size, const char *what, const char *its) {
+    iocsq_touch(&queue_count, IOCSQ_LOOKS);
     pthread_mutex_lock(&queues_mutex);
     for (uint32_t at = 0; at < queue_count; at++) {
         if (queues[at]->csq && (uintptr_t)queues[at]->csq - (uintptr_t)from < size) {
@@ -87,6 +92,7 @@ void iocsq_end_queues(void) {
 
 struct iocsq_irp *iocsq_left_in_queues(uint32_t file) {
     struct iocsq_irp *left = NULL;
+    iocsq_touch(&queue_count, IOCSQ_LOOKS);
     pthread_mutex_lock(&queues_mutex);
     for (uint32_t at = 0; at < queue_count && !left; at++) {
         left = iocsq_reference_left(&queues[at]->reference, file);
@@ -140,6 +146,7 @@ static void begin(PIO_CSQ csq) {
     end_before(csq, csq->Type == IO_TYPE_CSQ_EX
                         ? "IoCsqInitializeEx of an IO_CSQ that was initialized before"
                         : "IoCsqInitialize of an IO_CSQ that was initialized before");
+    iocsq_touch(&queue_count, IOCSQ_CHANGES);
     pthread_mutex_lock(&queues_mutex);
     struct iocsq_queue *q = find_forgotten();
     if (!q) {
@@ -219,6 +226,9 @@ IOCSQ_POLICY iocsq_policy_of(const struct iocsq_irp *i) {
 /* ---- List entries of IRPs that are in a queue: under that queue's lock alone ---- */
 static void check_touch(const LIST_ENTRY *entry, const char *call, const char *how) {
     struct iocsq_irp *i = iocsq_irp_of_entry(entry);
+    if (i) {
+        iocsq_touch(i, IOCSQ_LOOKS);
+    }
     const struct iocsq_reference *r = i && i->place == IOCSQ_LISTED ? iocsq_reference_of(i) : NULL;
     if (r && !iocsq_has_lock(iocsq_queue_at(r->index)->lock)) {
         iocsq_disagree(i, "%s %s irp %u, which is in the queue, without the queue's lock", call,

@@ -82,6 +82,7 @@ void iocsq_reference_end(struct iocsq_reference *r) {
 }
 
 bool iocsq_reference_is_idle(struct iocsq_reference *r) {
+    iocsq_touch(&r->free_count, IOCSQ_CHANGES);
     pthread_mutex_lock(&r->mutex);
     bool idle = r->free_count == IOCSQ_SLOTS;
     pthread_mutex_unlock(&r->mutex);
@@ -90,6 +91,7 @@ bool iocsq_reference_is_idle(struct iocsq_reference *r) {
 
 /* ---- The list ---- */
 uint32_t iocsq_reference_next(struct iocsq_reference *r, uint32_t after, uint32_t file) {
+    iocsq_touch(r, IOCSQ_LOOKS);
     struct csq_irp next = { CSQ_ANY, 0 };
     pthread_mutex_lock(&r->mutex);
     uint32_t code = csq_peek_next(&r->queue, after, file, &next);
@@ -99,6 +101,7 @@ uint32_t iocsq_reference_next(struct iocsq_reference *r, uint32_t after, uint32_
 
 uint32_t iocsq_reference_judge(struct iocsq_reference *r, uint32_t after, uint32_t file,
                                uint32_t answer, uint32_t *skipped) {
+    iocsq_touch(r, IOCSQ_LOOKS);
     uint32_t verdict = CSQ_PEEK_SKIPS; /* of none, where `after` has gone meanwhile */
     pthread_mutex_lock(&r->mutex);
     uint32_t code = csq_judge_peek(&r->queue, after, file, answer, &verdict, skipped);
@@ -110,6 +113,7 @@ uint32_t iocsq_reference_judge(struct iocsq_reference *r, uint32_t after, uint32
 }
 
 uint32_t iocsq_reference_len(struct iocsq_reference *r) {
+    iocsq_touch(r, IOCSQ_LOOKS);
     uint32_t len = 0;
     pthread_mutex_lock(&r->mutex);
     expect(csq_len(&r->queue, &len), CSQ_OK, "csq_len");
@@ -131,6 +135,7 @@ static size_t excused_in(const struct iocsq_reference *r, uint32_t *slots) {
 }
 
 struct iocsq_irp *iocsq_reference_left(struct iocsq_reference *r, uint32_t file) {
+    iocsq_touch(r, IOCSQ_CHANGES);
     uint32_t excused[IOCSQ_SLOTS], left = CSQ_ANY;
     pthread_mutex_lock(&r->mutex);
     size_t count = excused_in(r, excused);
@@ -141,17 +146,21 @@ struct iocsq_irp *iocsq_reference_left(struct iocsq_reference *r, uint32_t file)
 }
 
 struct iocsq_reference *iocsq_reference_of(const struct iocsq_irp *i) {
+    iocsq_touch(i, IOCSQ_LOOKS);
     uint64_t stay = i->stay;
     return stay ? reference_of(stay) : NULL;
 }
 
 uint32_t iocsq_slot_in(const struct iocsq_reference *r, const struct iocsq_irp *i) {
+    iocsq_touch(i, IOCSQ_LOOKS);
     uint64_t stay = i->stay;
     return stay && i->place == IOCSQ_LISTED && reference_of(stay) == r ? irp_of(stay).irp : CSQ_ANY;
 }
 
 /* ---- Stays ---- */
 void iocsq_reference_join(struct iocsq_reference *r, struct iocsq_irp *i) {
+    iocsq_touch(i, IOCSQ_CHANGES | IOCSQ_RELEASES);
+    iocsq_touch(&r->free_count, IOCSQ_LOOKS);
     pthread_mutex_lock(&r->mutex);
     if (r->free_count == 0) {
         iocsq_fail("more than %u IRPs in one queue", (unsigned)IOCSQ_SLOTS);
@@ -179,6 +188,8 @@ static void settle(struct iocsq_irp *i, uint32_t pass, uint32_t named, const cha
 
 bool iocsq_reference_insert(struct iocsq_reference *r, struct iocsq_irp *i, uint32_t file,
                             bool first) {
+    iocsq_touch(i, IOCSQ_CHANGES);
+    iocsq_touch(r, IOCSQ_CHANGES);
     struct csq_irp context, irp = irp_of(i->stay);
     pthread_mutex_lock(&r->mutex);
     uint32_t pass = lend_pass(r);
@@ -200,6 +211,8 @@ bool iocsq_reference_goes_on(const struct iocsq_reference *r, const struct iocsq
 }
 
 uint32_t iocsq_reference_put_back(struct iocsq_reference *r, struct iocsq_irp *i, bool first) {
+    iocsq_touch(i, IOCSQ_CHANGES | IOCSQ_RELEASES);
+    iocsq_touch(r, IOCSQ_CHANGES);
     struct csq_irp context;
     uint32_t code = CSQ_NOT_HELD;
     pthread_mutex_lock(&r->mutex);
@@ -221,6 +234,8 @@ uint32_t iocsq_reference_put_back(struct iocsq_reference *r, struct iocsq_irp *i
 }
 
 uint32_t iocsq_reference_remove(struct iocsq_reference *r, struct iocsq_irp *i) {
+    iocsq_touch(i, IOCSQ_CHANGES);
+    iocsq_touch(r, IOCSQ_CHANGES);
     uint32_t verdict = CSQ_REMOVE_NOT_LISTED;
     pthread_mutex_lock(&r->mutex);
     uint64_t stay = i->stay;
@@ -247,7 +262,9 @@ uint32_t iocsq_reference_remove(struct iocsq_reference *r, struct iocsq_irp *i) 
 
 bool iocsq_reference_mark(struct iocsq_irp *i, struct iocsq_claim *claim) {
     uint64_t stay;
+    iocsq_touch(i, IOCSQ_SYNC);
     while ((stay = i->stay) != 0) {
+        iocsq_touch(i, IOCSQ_SYNC);
         struct iocsq_reference *r = reference_of(stay);
         struct iocsq_claim made = { r, irp_of(stay), lend_pass(r) };
         uint32_t found = 0;
@@ -267,6 +284,8 @@ bool iocsq_reference_mark(struct iocsq_irp *i, struct iocsq_claim *claim) {
 }
 
 void iocsq_reference_run_routine(const struct iocsq_claim *claim, struct iocsq_irp *i) {
+    iocsq_touch(i, IOCSQ_CHANGES);
+    iocsq_touch(claim->reference, IOCSQ_CHANGES);
     struct iocsq_reference *r = claim->reference;
     pthread_mutex_lock(&r->mutex);
     lend_this_pass(r, claim->pass);
@@ -287,6 +306,7 @@ static void free_slot(struct iocsq_reference *r, struct iocsq_irp *i, struct csq
            "csq_reuse");
     i->stay = 0;
     i->place = IOCSQ_HOME;
+    iocsq_touch(&r->free_count, IOCSQ_LOOKS);
     r->by_slot[irp.irp] = NULL;
     r->free_slots[r->free_count++] = irp.irp;
 }
@@ -311,6 +331,7 @@ static uint32_t judge_use(struct iocsq_reference *r, uint32_t pass, struct csq_i
 
 /* Ends a stay, through the pass that holds the IRP, if that agrees. */
 static uint32_t end_stay(struct iocsq_irp *i, struct use use) {
+    iocsq_touch(i, IOCSQ_CHANGES);
     uint64_t stay = i->stay;
     uint32_t pass = i->place == IOCSQ_LISTED ? iocsq_pass_of_thread() : i->pass;
     if (!stay) {

@@ -18,7 +18,7 @@ NTSTATUS NTAPI IoAcquireRemoveLockEx(PIO_REMOVE_LOCK RemoveLock, PVOID Tag, PCST
     NTSTATUS status = STATUS_SUCCESS;
     (void)File, (void)Line, (void)RemlockSize;
     iocsq_point();
-    iocsq_lock_state();
+    iocsq_lock_state_for(RemoveLock, IOCSQ_LOOKS);
     if (RemoveLock->IoCount == 0 && !RemoveLock->Removed) {
         iocsq_disagree(NULL, "IoAcquireRemoveLock of a remove lock that was not initialized");
     }
@@ -55,7 +55,7 @@ static void release(PIO_REMOVE_LOCK lock, PVOID tag) {
 
 VOID NTAPI IoReleaseRemoveLockEx(PIO_REMOVE_LOCK RemoveLock, PVOID Tag, ULONG RemlockSize) {
     (void)RemlockSize;
-    iocsq_lock_state();
+    iocsq_lock_state_for(RemoveLock, IOCSQ_LOOKS | IOCSQ_RELEASES);
     release(RemoveLock, Tag);
     iocsq_unlock_state();
     iocsq_point();
@@ -64,7 +64,7 @@ VOID NTAPI IoReleaseRemoveLockEx(PIO_REMOVE_LOCK RemoveLock, PVOID Tag, ULONG Re
 VOID NTAPI IoReleaseRemoveLockAndWaitEx(PIO_REMOVE_LOCK RemoveLock, PVOID Tag, ULONG RemlockSize) {
     (void)RemlockSize;
     iocsq_expect_irql(PASSIVE_LEVEL, "IoReleaseRemoveLockAndWait");
-    iocsq_lock_state();
+    iocsq_lock_state_for(RemoveLock, IOCSQ_CHANGES);
     if (RemoveLock->Removed) {
         iocsq_disagree(NULL,
                        "IoReleaseRemoveLockAndWait of a remove lock that was waited for before");
@@ -79,6 +79,7 @@ VOID NTAPI IoReleaseRemoveLockAndWaitEx(PIO_REMOVE_LOCK RemoveLock, PVOID Tag, U
         iocsq_disagree(iocsq_irp_at(RemoveLock->Tags[0]),
                        "IoReleaseRemoveLockAndWait waits for an acquire that is never released");
     }
+    iocsq_touch(RemoveLock, IOCSQ_CHANGES | IOCSQ_ACQUIRES);
     iocsq_unlock_state();
 }
 
@@ -90,14 +91,20 @@ VOID FASTCALL ExInitializeRundownProtection(PEX_RUNDOWN_REF RunRef) {
     KeInitializeEvent(&RunRef->Released, NotificationEvent, FALSE);
 }
 
+/* The driver has run down what it protects, and made it anew: who acquires it later comes after
+ * that. (Not after those who have released it meanwhile, so that is an object of its own.) */
 VOID FASTCALL ExReInitializeRundownProtection(PEX_RUNDOWN_REF RunRef) {
+    iocsq_point();
+    iocsq_touch(RunRef, IOCSQ_CHANGES);
     ExInitializeRundownProtection(RunRef);
+    iocsq_touch(&RunRef->Released, IOCSQ_CHANGES | IOCSQ_RELEASES);
 }
 
 BOOLEAN FASTCALL ExAcquireRundownProtection(PEX_RUNDOWN_REF RunRef) {
     iocsq_expect_header(&RunRef->Released.Header, "ExAcquireRundownProtection");
     iocsq_point();
-    iocsq_lock_state();
+    iocsq_lock_state_for(RunRef, IOCSQ_LOOKS);
+    iocsq_touch(&RunRef->Released, IOCSQ_LOOKS | IOCSQ_ACQUIRES);
     bool may = !(RunRef->Count & REFUSES);
     RunRef->Count += may ? ACQUIRE : 0;
     iocsq_unlock_state();
@@ -105,7 +112,7 @@ BOOLEAN FASTCALL ExAcquireRundownProtection(PEX_RUNDOWN_REF RunRef) {
 }
 
 VOID FASTCALL ExReleaseRundownProtection(PEX_RUNDOWN_REF RunRef) {
-    iocsq_lock_state();
+    iocsq_lock_state_for(RunRef, IOCSQ_LOOKS | IOCSQ_RELEASES);
     if (RunRef->Count < ACQUIRE) {
         iocsq_disagree(NULL, "ExReleaseRundownProtection without an acquire");
     }
@@ -121,7 +128,7 @@ VOID FASTCALL ExReleaseRundownProtection(PEX_RUNDOWN_REF RunRef) {
 VOID FASTCALL ExWaitForRundownProtectionRelease(PEX_RUNDOWN_REF RunRef) {
     iocsq_expect_irql(APC_LEVEL, "ExWaitForRundownProtectionRelease");
     iocsq_expect_header(&RunRef->Released.Header, "ExWaitForRundownProtectionRelease");
-    iocsq_lock_state();
+    iocsq_lock_state_for(RunRef, IOCSQ_CHANGES);
     RunRef->Count |= REFUSES;
     RunRef->Released.Header.SignalState = RunRef->Count == REFUSES;
     if (!iocsq_await(iocsq_is_signaled, &RunRef->Released.Header, TEN_SECONDS,
@@ -129,6 +136,7 @@ VOID FASTCALL ExWaitForRundownProtectionRelease(PEX_RUNDOWN_REF RunRef) {
         iocsq_disagree(
             NULL, "ExWaitForRundownProtectionRelease waits for an acquire that is never released");
     }
+    iocsq_touch(RunRef, IOCSQ_CHANGES | IOCSQ_ACQUIRES);
     iocsq_unlock_state();
 }
 

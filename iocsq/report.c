@@ -71,11 +71,11 @@ uint32_t iocsq_random(void) {
 }
 
 uint32_t iocsq_draw(uint32_t below) {
-    return iocsq_is_bounded() ? iocsq_choose(below, below) : iocsq_random() % below;
+    return iocsq_is_bounded() ? iocsq_choose_value(below) : iocsq_random() % below;
 }
 
 bool iocsq_rarely(uint32_t in) {
-    return iocsq_is_bounded() ? iocsq_choose(2, 2) != 0 : iocsq_random() % in == 0;
+    return iocsq_is_bounded() ? iocsq_choose_value(2) != 0 : iocsq_random() % in == 0;
 }
 
 VOID IocsqChaos(ULONG Seed) {
@@ -143,6 +143,7 @@ __attribute__((format(printf, 3, 0))) static void add_line(const struct iocsq_ir
     uint64_t number = next_line++;
     vsnprintf(text, sizeof text, format, rest);
     write_line(&lines[number % LINES], number, text);
+    iocsq_trace_line(text);
     if (about) {
         write_history(about->index, sent, number, text);
     }

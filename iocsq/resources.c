@@ -15,7 +15,7 @@ static void expect_resource(const ERESOURCE *resource, const char *call) {
 NTSTATUS NTAPI ExInitializeResourceLite(PERESOURCE Resource) {
     ERESOURCE made = { .Initialized = RESOURCE };
     iocsq_expect_nonpaged(Resource, "a resource");
-    iocsq_lock_state();
+    iocsq_lock_state_for(&resources, IOCSQ_CHANGES);
     for (PERESOURCE at = resources; at; at = at->Next) {
         if (at == Resource) {
             iocsq_disagree(NULL, "ExInitializeResourceLite of a resource that was not deleted");
@@ -49,7 +49,8 @@ static bool is_shared(const ERESOURCE *resource) {
 NTSTATUS NTAPI ExDeleteResourceLite(PERESOURCE Resource) {
     PERESOURCE *link = &resources;
     expect_resource(Resource, "ExDeleteResourceLite");
-    iocsq_lock_state();
+    iocsq_lock_state_for(&resources, IOCSQ_CHANGES);
+    iocsq_touch(Resource, IOCSQ_LOOKS);
     if (Resource->Owner != 0 || is_shared(Resource)) {
         iocsq_disagree(NULL, "ExDeleteResourceLite of a resource that a thread has");
     }
@@ -63,7 +64,7 @@ NTSTATUS NTAPI ExDeleteResourceLite(PERESOURCE Resource) {
 }
 
 void iocsq_check_no_resource(const void *from, size_t size, const char *what) {
-    iocsq_lock_state();
+    iocsq_lock_state_for(&resources, IOCSQ_LOOKS);
     for (const ERESOURCE *at = resources; at; at = at->Next) {
         if ((uintptr_t)at - (uintptr_t)from < size) {
             iocsq_disagree(NULL, "%s, and a resource in it was not deleted", what);
@@ -117,7 +118,7 @@ static void take(const struct acquire *by) {
 static BOOLEAN acquire(struct acquire by, BOOLEAN wait, const char *call) {
     expect_resource(by.resource, call);
     iocsq_point();
-    iocsq_lock_state();
+    iocsq_lock_state_for(NULL, 0);
     if (by.exclusive && wait && place_of(by.resource, iocsq_thread()) < IOCSQ_SHARERS) {
         iocsq_disagree(NULL,
                        "a deadlock: %s of a resource that this thread shares waits for it to "
@@ -125,6 +126,7 @@ static BOOLEAN acquire(struct acquire by, BOOLEAN wait, const char *call) {
                        call);
     }
     bool taken = iocsq_await(can_be_had, &by, wait ? IOCSQ_FOR_EVER : 0, "a resource");
+    iocsq_touch(by.resource, taken ? (unsigned)IOCSQ_SYNC : (unsigned)IOCSQ_LOOKS);
     if (taken) {
         take(&by);
     }
@@ -156,7 +158,7 @@ static void stop_sharing(PERESOURCE resource) {
 
 VOID FASTCALL ExReleaseResourceLite(PERESOURCE Resource) {
     expect_resource(Resource, "ExReleaseResourceLite");
-    iocsq_lock_state();
+    iocsq_lock_state_for(Resource, IOCSQ_SYNC);
     if (Resource->Owner != iocsq_thread()) {
         stop_sharing(Resource);
     } else if (--Resource->Depth == 0) {
@@ -170,7 +172,7 @@ VOID FASTCALL ExReleaseResourceLite(PERESOURCE Resource) {
 
 VOID NTAPI ExConvertExclusiveToSharedLite(PERESOURCE Resource) {
     expect_resource(Resource, "ExConvertExclusiveToSharedLite");
-    iocsq_lock_state();
+    iocsq_lock_state_for(Resource, IOCSQ_SYNC);
     if (Resource->Owner != iocsq_thread()) {
         iocsq_disagree(NULL, "ExConvertExclusiveToSharedLite of a resource that this thread "
                              "doesn't have exclusively");
@@ -185,7 +187,7 @@ VOID NTAPI ExConvertExclusiveToSharedLite(PERESOURCE Resource) {
 
 BOOLEAN NTAPI ExIsResourceAcquiredExclusiveLite(PERESOURCE Resource) {
     expect_resource(Resource, "ExIsResourceAcquiredExclusiveLite");
-    iocsq_lock_state();
+    iocsq_lock_state_for(Resource, IOCSQ_LOOKS);
     bool has = Resource->Owner == iocsq_thread();
     iocsq_unlock_state();
     return has;
@@ -193,7 +195,7 @@ BOOLEAN NTAPI ExIsResourceAcquiredExclusiveLite(PERESOURCE Resource) {
 
 ULONG NTAPI ExIsResourceAcquiredSharedLite(PERESOURCE Resource) {
     expect_resource(Resource, "ExIsResourceAcquiredSharedLite");
-    iocsq_lock_state();
+    iocsq_lock_state_for(Resource, IOCSQ_LOOKS);
     uint32_t at = place_of(Resource, iocsq_thread());
     ULONG depth = Resource->Owner == iocsq_thread() ? Resource->Depth
                   : at < IOCSQ_SHARERS              ? Resource->Sharers[at].Depth
@@ -209,7 +211,7 @@ static void begin_step(const SLIST_HEADER *head, const char *call) {
                        call);
     }
     iocsq_point();
-    iocsq_lock_state();
+    iocsq_lock_state_for(head, IOCSQ_SYNC);
 }
 
 VOID NTAPI InitializeSListHead(PSLIST_HEADER SListHead) {

@@ -42,6 +42,7 @@ static void leave_out_put_back(struct iocsq_irp *i) {
 }
 
 void iocsq_step_before(struct iocsq_irp *i, uint32_t at, uint32_t pass, const char *name) {
+    iocsq_touch(i, IOCSQ_CHANGES); /* two orders of its steps are two schedules */
     struct iocsq_step step = { name, pass, iocsq_own.during, iocsq_thread() };
     if (i->step_count < IOCSQ_STEPS) {
         memmove(&i->steps[at + 1], &i->steps[at], (i->step_count - at) * sizeof step);

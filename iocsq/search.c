@@ -31,7 +31,10 @@ void __asan_on_error(void) {
 
 static bool matches(const struct iocsq_search *s, struct iocsq_irp *i) {
     if (s->q->policy.Match) {
-        return s->q->policy.Match(&i->irp, s->context);
+        iocsq_own.hushed++;
+        bool matches = s->q->policy.Match(&i->irp, s->context);
+        iocsq_own.hushed--;
+        return matches;
     }
     return s->context == NULL || s->context == (PVOID)iocsq_irp_file(i);
 }
@@ -160,8 +163,10 @@ static void peek_to_the_last(struct iocsq_search *s) {
     struct iocsq_undo undo;
     has_own_peeks = true;
     iocsq_begin_undo(&undo, __builtin_frame_address(0));
+    iocsq_own.hushed++;
     while (iocsq_peek(s)) {
     }
+    iocsq_own.hushed--;
     iocsq_end_undo(&undo);
 }
 

@@ -34,7 +34,7 @@ static struct thread_object *thread_at(const void *object) {
 
 static void end_thread(struct thread_object *object) {
     iocsq_point();
-    iocsq_lock_state();
+    iocsq_lock_state_for(&object->header, IOCSQ_CHANGES | IOCSQ_RELEASES);
     object->header.SignalState = 1;
     iocsq_state_changed();
     iocsq_unlock_state();
@@ -62,7 +62,7 @@ NTSTATUS NTAPI PsCreateSystemThread(PHANDLE ThreadHandle, ULONG DesiredAccess,
     object->start = StartRoutine;
     object->context = StartContext;
     object->open = true;
-    iocsq_lock_state();
+    iocsq_lock_state_for(&thread_objects, IOCSQ_CHANGES);
     object->next = thread_objects;
     thread_objects = object;
     iocsq_unlock_state();
@@ -94,7 +94,7 @@ KPRIORITY NTAPI KeSetPriorityThread(PKTHREAD Thread, KPRIORITY Priority) {
 /* ---- Handles and references ---- */
 static struct thread_object *thread_of_handle(HANDLE handle, const char *call) {
     iocsq_expect_irql(PASSIVE_LEVEL, call);
-    iocsq_lock_state();
+    iocsq_lock_state_for(&thread_objects, IOCSQ_CHANGES);
     struct thread_object *object = thread_at(handle);
     if (!object || !object->open) {
         iocsq_disagree(NULL, "%s of a handle that isn't open", call);
@@ -135,7 +135,8 @@ static bool reference_thread(PVOID object, int change) {
 static void reference(PVOID object, int change, const char *call) {
     iocsq_expect_irql(DISPATCH_LEVEL, call);
     iocsq_point();
-    iocsq_lock_state();
+    iocsq_lock_state_for(object, IOCSQ_CHANGES | IOCSQ_RELEASES);
+    iocsq_touch(&thread_objects, IOCSQ_LOOKS);
     if (!reference_thread(object, change) && !iocsq_reference_file(object, change) &&
         !iocsq_reference_device(object, change)) {
         iocsq_disagree(NULL, "%s of %p, which is no thread, file object or device", call, object);
@@ -153,7 +154,7 @@ VOID IocsqDereferenceObject(PVOID Object) {
 
 /* After the driver was unloaded: its threads have ended by then, and nothing refers to them. */
 static void check_thread(const struct thread_object *object) {
-    iocsq_lock_state();
+    iocsq_lock_state_for(&object->header, IOCSQ_LOOKS | IOCSQ_ACQUIRES);
     const char *left = object->header.SignalState <= 0 ? "a thread of it has not ended"
                        : object->references > 0 ? "a reference to a thread of it was never dropped"
                        : object->open           ? "a handle of a thread of it was never closed"

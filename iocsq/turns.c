@@ -11,15 +11,7 @@
 #include <sched.h>
 #include <stdlib.h>
 
-#if defined(__SANITIZE_THREAD__)
-#define THREAD_SANITIZER 1
-#elif defined(__has_feature)
-#if __has_feature(thread_sanitizer)
-#define THREAD_SANITIZER 1
-#endif
-#endif
-
-enum { TASKS = 256, TURN_NANOSECONDS = 10000, SHORT_REST = 400, LONG_REST = 4000 };
+enum { TASKS = 256, SHORT_REST = 400, LONG_REST = 4000 };
 enum { EARLY_IN = 16 }; /* by priorities: so often the clock comes early */
 enum { GOES_ROUND = 2000 }; /* points without a switch: the thread waits for another, though it
                              * doesn't say so */
@@ -51,7 +43,6 @@ static struct task *running;
 static _Thread_local struct task *self;
 static uint32_t draw_state; /* 0: threads run freely */
 static uint64_t given;      /* turns */
-static uint64_t now;        /* nanoseconds */
 static ULONG most_switches; /* 0: no limit */
 static uint32_t points;     /* since the last switch, in the bounded mode */
 _Thread_local struct iocsq_own iocsq_own;
@@ -61,6 +52,15 @@ static uint32_t draw(uint32_t below) {
     draw_state ^= draw_state >> 17;
     draw_state ^= draw_state << 5;
     return draw_state % below;
+}
+
+/* The main thread goes on as at first, since a run was left. */
+void iocsq_leave_turns(void) {
+    self = running = tasks;
+    self->may_go = NULL;
+    self->until = IOCSQ_FOR_EVER;
+    self->is_time = self->done = false;
+    self->rests = 0;
 }
 
 bool iocsq_in_turns(void) {
@@ -75,14 +75,6 @@ void iocsq_forget_priorities(void) {
     for (uint32_t at = 0; at < task_count; at++) {
         tasks[at].priority = 0;
     }
-}
-
-uint64_t iocsq_now_in_turns(void) {
-    return now;
-}
-
-void iocsq_pass_time_in_turns(uint64_t nanoseconds) {
-    now += nanoseconds;
 }
 
 static struct task *find_joined(void) {
@@ -114,13 +106,15 @@ VOID IocsqTurns(ULONG Seed) {
     draw_state = Seed * 2654435761u | 1u;
     self = running = new_task();
     self->number = iocsq_thread();
+    if (!iocsq_is_bounded()) {
+        iocsq_begin_races();
+    }
 }
 
 VOID IocsqBounded(VOID) {
-#ifdef THREAD_SANITIZER
-    iocsq_fail(
-        "the bounded mode is not for the thread sanitizer, which has to see threads of the system");
-#endif
+    if (iocsq_is_thread_sanitized()) {
+        iocsq_fail("the bounded mode isn't for the thread sanitizer, which sees no contexts");
+    }
     iocsq_begin_choices();
     iocsq_begin_contexts(TASKS);
     IocsqTurns(1);
@@ -131,7 +125,7 @@ VOID IocsqSwitches(ULONG Most) {
 }
 
 static bool is_ready(const struct task *t) {
-    return !t->done && (!t->may_go || t->may_go(t->of) || t->until <= now);
+    return !t->done && (!t->may_go || t->may_go(t->of) || t->until <= iocsq_now_in_turns());
 }
 
 /* ---- Who is next: the baton is held ---- */
@@ -177,10 +171,11 @@ static uint64_t soonest_end_of_wait(void) {
 
 /* Nobody may go: the clock goes on to the first whose wait ends. */
 static void pass_time(void) {
-    now = soonest_end_of_wait();
-    if (now == IOCSQ_FOR_EVER) {
+    uint64_t soonest = soonest_end_of_wait();
+    if (soonest == IOCSQ_FOR_EVER) {
         report_deadlock();
     }
+    iocsq_set_clock(soonest);
 }
 
 static struct task *draw_next(void) {
@@ -258,6 +253,18 @@ static struct task *highest_of(struct task **options, uint32_t count, struct tas
     return early && iocsq_draw_by_priorities(EARLY_IN) == 0 ? early : next;
 }
 
+/* Who may go on follows from the state, but for a thread that has yet to find that it waits: then
+ * those that it leads to are options too, at the same price. */
+static uint32_t choose_option(struct task **options, uint32_t count, uint32_t free, bool waits) {
+    uint32_t threads[TASKS + 2];
+    struct iocsq_options of = { count, free, self->number * 2 + waits, threads };
+    for (uint32_t at = 0; at < count; at++) {
+        threads[at] = is_ready(options[at]) ? options[at]->number : 0; /* otherwise the clock comes
+                                                                        * early */
+    }
+    return iocsq_choose(&of);
+}
+
 /* Option 0 is to go on, where the thread can; another is a preemption then. Where it waits, or goes
  * round, the switch is free, but for the clock that comes early. Null: nobody can go on. */
 static struct task *choose_next(bool waits) {
@@ -281,9 +288,9 @@ static struct task *choose_next(bool waits) {
     uint32_t others = early ? count - 1 : count;
     struct task *next = iocsq_is_by_priorities()
                             ? highest_of(options, others, early, waits && is_ready(self))
-                            : options[iocsq_choose(count, free)];
+                            : options[choose_option(options, count, free, waits)];
     if (next == early) {
-        now = early->until;
+        iocsq_set_clock(early->until);
     }
     if (!waits && next != self) {
         iocsq_log(NULL, "-- t%u is preempted by t%u%s", self->number, next->number,
@@ -305,6 +312,7 @@ static void switch_context(struct task *next) {
     before->own = iocsq_own;
     self = next;
     iocsq_own = next->own;
+    iocsq_begin_transition();
     iocsq_switch_context(&before->bounded, &next->bounded, before->done);
 }
 
@@ -321,7 +329,7 @@ static void give_turn(struct task *next) {
 
 static void hand_over(void) {
     given++;
-    now += TURN_NANOSECONDS;
+    iocsq_pass_time_of_turn();
     give_turn(iocsq_is_bounded() ? choose_after_wait() : draw_next());
 }
 
@@ -340,12 +348,13 @@ static void take_turns(void) {
 
 static void bounded_point(void) {
     if (++points > GOES_ROUND) {
+        iocsq_trace_choice(GOES_ROUND); /* otherwise it would be in a state in which it was */
         take_turns();
         return;
     }
     struct task *next = choose_next(false);
     if (next != self) {
-        now += TURN_NANOSECONDS;
+        iocsq_pass_time_of_turn();
         pthread_mutex_lock(&baton);
         give_turn(next);
         pthread_mutex_unlock(&baton);
@@ -353,6 +362,7 @@ static void bounded_point(void) {
 }
 
 void iocsq_turn_point(void) {
+    iocsq_report_race();
     if (iocsq_is_bounded()) {
         bounded_point();
         return;
@@ -364,6 +374,7 @@ void iocsq_turn_point(void) {
 }
 
 void iocsq_long_turn_point(uint32_t in) {
+    iocsq_report_race();
     if (!iocsq_is_bounded() && draw(in) == 0) {
         self->rests = given + draw(LONG_REST);
         take_turns();
@@ -373,6 +384,7 @@ void iocsq_long_turn_point(uint32_t in) {
 }
 
 void iocsq_yield(void) {
+    iocsq_report_race();
     if (iocsq_in_turns()) {
         take_turns();
     } else {
@@ -382,18 +394,29 @@ void iocsq_yield(void) {
 
 void iocsq_wait_in_turns(bool (*may_go)(void *), void *of, uint64_t nanoseconds, bool is_time,
                          const char *what) {
+    iocsq_report_race();
+    if (is_time && nanoseconds != IOCSQ_FOR_EVER) {
+        iocsq_pass_time_of_call();
+    }
+    if (nanoseconds != IOCSQ_FOR_EVER) {
+        iocsq_look_at_clock();
+    }
     pthread_mutex_lock(&baton);
     self->may_go = may_go;
     self->of = of;
     self->waits_for = what;
     self->is_time = is_time;
-    self->until = nanoseconds == IOCSQ_FOR_EVER ? IOCSQ_FOR_EVER : now + nanoseconds;
+    self->until =
+        nanoseconds == IOCSQ_FOR_EVER ? IOCSQ_FOR_EVER : iocsq_now_in_turns() + nanoseconds;
     hand_over();
     wait_for_turn();
     self->may_go = NULL;
     self->until = IOCSQ_FOR_EVER;
     self->is_time = false;
     pthread_mutex_unlock(&baton);
+    if (nanoseconds != IOCSQ_FOR_EVER) {
+        iocsq_look_at_clock();
+    }
 }
 
 /* ---- Threads of the test and of the driver ---- */
@@ -401,6 +424,8 @@ void iocsq_end_turns_of_thread(void) {
     if (!self) {
         return;
     }
+    iocsq_report_race();
+    iocsq_touch(self, IOCSQ_CHANGES | IOCSQ_RELEASES);
     pthread_mutex_lock(&baton);
     self->done = true;
     hand_over();
@@ -413,6 +438,7 @@ static void *run_task(void *task) {
     wait_for_turn();
     pthread_mutex_unlock(&baton);
     self->number = iocsq_thread();
+    iocsq_own.part = self->own.part;
     void *result = self->start(self->context);
     iocsq_end_turns_of_thread();
     return result;
@@ -434,20 +460,25 @@ IOCSQ_THREAD IocsqThread(void *(*Start)(void *), void *Context) {
         }
         return thread;
     }
+    iocsq_touch(&task_count, IOCSQ_CHANGES);
     struct task *t = new_task();
     t->start = Start;
     t->context = Context;
     if (iocsq_is_bounded()) {
         t->number = t->own.thread = iocsq_number_thread();
+        t->own.part = iocsq_part_of_thread(t->number);
         iocsq_make_context(&t->bounded, (size_t)(t - tasks), run_context);
-    } else if (pthread_create(&t->thread, NULL, run_task, t) != 0) {
-        iocsq_fail("a thread wasn't started");
+    } else {
+        t->own.part = iocsq_part_of_thread(task_count);
+        if (pthread_create(&t->thread, NULL, run_task, t) != 0) {
+            iocsq_fail("a thread wasn't started");
+        }
     }
     return t;
 }
 
-static bool is_done(void *task) {
-    return ((struct task *)task)->done;
+bool iocsq_has_ended(void *thread) {
+    return ((struct task *)thread)->done;
 }
 
 VOID IocsqJoin(IOCSQ_THREAD Thread) {
@@ -458,36 +489,11 @@ VOID IocsqJoin(IOCSQ_THREAD Thread) {
     }
     struct task *t = Thread;
     if (!t->done) {
-        iocsq_wait_in_turns(is_done, t, IOCSQ_FOR_EVER, false, "a thread's end");
+        iocsq_wait_in_turns(iocsq_has_ended, t, IOCSQ_FOR_EVER, false, "a thread's end");
     }
+    iocsq_touch(t, IOCSQ_ACQUIRES);
     if (!iocsq_is_bounded()) {
         pthread_join(t->thread, NULL);
     }
     t->joined = true;
-}
-
-/* Several threads of a test. */
-struct joined {
-    IOCSQ_THREAD *threads;
-    ULONG count;
-};
-
-static bool are_done(void *of) {
-    const struct joined *joined = of;
-    for (ULONG at = 0; at < joined->count; at++) {
-        if (!is_done(joined->threads[at])) {
-            return false;
-        }
-    }
-    return true;
-}
-
-VOID IocsqJoinAll(IOCSQ_THREAD *Threads, ULONG Count) {
-    struct joined joined = { Threads, Count };
-    if (iocsq_in_turns() && !are_done(&joined)) {
-        iocsq_wait_in_turns(are_done, &joined, IOCSQ_FOR_EVER, false, "threads' ends");
-    }
-    for (ULONG at = 0; at < Count; at++) {
-        IocsqJoin(Threads[at]);
-    }
 }

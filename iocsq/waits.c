@@ -16,8 +16,15 @@ static pthread_mutex_t state_mutex = PTHREAD_MUTEX_INITIALIZER;
 static pthread_cond_t state_condition = PTHREAD_COND_INITIALIZER;
 
 /* ---- The state's lock ---- */
-void iocsq_lock_state(void) {
+void iocsq_lock_state_for(const void *object, unsigned how) {
     pthread_mutex_lock(&state_mutex);
+    if (object) {
+        iocsq_touch(object, how);
+    }
+}
+
+void iocsq_lock_state(void) {
+    iocsq_lock_state_for(&state_mutex, IOCSQ_CHANGES);
 }
 
 void iocsq_unlock_state(void) {
@@ -105,7 +112,7 @@ void iocsq_expect_header(const DISPATCHER_HEADER *header, const char *call) {
 
 static LONG state_of(const DISPATCHER_HEADER *header, const char *call) {
     iocsq_expect_header(header, call);
-    iocsq_lock_state();
+    iocsq_lock_state_for(header, IOCSQ_LOOKS | IOCSQ_ACQUIRES);
     LONG state = header->SignalState;
     iocsq_unlock_state();
     return state;
@@ -115,7 +122,7 @@ static LONG state_of(const DISPATCHER_HEADER *header, const char *call) {
 static LONG set_signal(DISPATCHER_HEADER *header, LONG state, const char *call) {
     iocsq_expect_header(header, call);
     iocsq_point();
-    iocsq_lock_state();
+    iocsq_lock_state_for(header, IOCSQ_SYNC);
     LONG before = header->SignalState;
     header->SignalState = state;
     iocsq_state_changed();
@@ -160,7 +167,7 @@ LONG NTAPI KeReadStateMutex(PRKMUTEX Mutex) {
 LONG NTAPI KeReleaseMutex(PRKMUTEX Mutex, BOOLEAN Wait) {
     (void)Wait;
     iocsq_expect_header(&Mutex->Header, "KeReleaseMutex");
-    iocsq_lock_state();
+    iocsq_lock_state_for(&Mutex->Header, IOCSQ_SYNC);
     if (Mutex->OwnerThread != iocsq_thread()) {
         iocsq_disagree(NULL, "KeReleaseMutex by a thread that doesn't have the mutex");
     }
@@ -191,7 +198,7 @@ LONG NTAPI KeReleaseSemaphore(PRKSEMAPHORE Semaphore, KPRIORITY Increment, LONG 
     (void)Increment, (void)Wait;
     iocsq_expect_header(&Semaphore->Header, "KeReleaseSemaphore");
     iocsq_log_of_driver("KeReleaseSemaphore");
-    iocsq_lock_state();
+    iocsq_lock_state_for(&Semaphore->Header, IOCSQ_SYNC);
     LONG before = Semaphore->Header.SignalState;
     if (Adjustment < 1 || Adjustment > Semaphore->Limit - before) {
         iocsq_disagree(NULL, "KeReleaseSemaphore by %d of a semaphore at %d, whose limit is %d",
@@ -285,8 +292,11 @@ NTSTATUS NTAPI KeWaitForMultipleObjects(ULONG Count, PVOID Object[], WAIT_TYPE W
         iocsq_expect_header(objects[at], "a wait");
     }
     iocsq_point();
-    iocsq_lock_state();
+    iocsq_lock_state_for(NULL, 0);
     bool over = iocsq_await_time(is_over, &wait, nanoseconds, "an object");
+    for (ULONG at = 0; at < Count; at++) {
+        iocsq_touch(objects[at], over ? (unsigned)IOCSQ_SYNC : (unsigned)IOCSQ_LOOKS);
+    }
     NTSTATUS status = over ? end_wait(&wait) : STATUS_TIMEOUT;
     iocsq_unlock_state();
     return status;

@@ -179,13 +179,13 @@ static VOID NTAPI run_item(PDEVICE_OBJECT device, PVOID context) {
     struct item *w = context;
     struct iocsq_wdf_entry entry = iocsq_wdf_enter();
     (void)device;
-    iocsq_lock_state();
+    iocsq_lock_framework();
     w->queued = false;
     w->running++;
     iocsq_unlock_state();
     w->call((WDFWORKITEM)context);
     iocsq_wdf_leave(entry, "EvtWorkItemFunc");
-    iocsq_lock_state();
+    iocsq_lock_framework();
     w->running--;
     iocsq_state_changed();
     iocsq_unlock_state();
@@ -199,8 +199,9 @@ static bool is_done(void *item) {
 static void stop_item(struct iocsq_wdf_object *object, bool waits) {
     struct item *w = (struct item *)(void *)object;
     if (waits) {
-        iocsq_lock_state();
+        iocsq_lock_framework();
         iocsq_await(is_done, w, IOCSQ_FOR_EVER, "a work item");
+        iocsq_touch_framework(); /* what was waited for came before */
         iocsq_unlock_state();
         IoFreeWorkItem(w->item);
     }
@@ -229,7 +230,7 @@ NTSTATUS WdfWorkItemCreate(PWDF_WORKITEM_CONFIG Config, PWDF_OBJECT_ATTRIBUTES A
 
 VOID WdfWorkItemEnqueue(WDFWORKITEM WorkItem) {
     struct item *w = iocsq_wdf_known(WorkItem, IOCSQ_WDF_ITEM, "WdfWorkItemEnqueue");
-    iocsq_lock_state();
+    iocsq_lock_framework();
     bool queues = !w->queued && !w->object.ends;
     w->queued = w->queued || queues;
     iocsq_unlock_state();
@@ -241,8 +242,9 @@ VOID WdfWorkItemEnqueue(WDFWORKITEM WorkItem) {
 VOID WdfWorkItemFlush(WDFWORKITEM WorkItem) {
     struct item *w = iocsq_wdf_known(WorkItem, IOCSQ_WDF_ITEM, "WdfWorkItemFlush");
     iocsq_expect_irql(PASSIVE_LEVEL, "WdfWorkItemFlush");
-    iocsq_lock_state();
+    iocsq_lock_framework();
     iocsq_await(is_done, w, IOCSQ_FOR_EVER, "a work item");
+    iocsq_touch_framework(); /* what was waited for came before */
     iocsq_unlock_state();
 }
 

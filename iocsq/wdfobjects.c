@@ -14,9 +14,18 @@ static const char *const kind_names[] = {
     [IOCSQ_WDF_ITEM] = "WDFWORKITEM"
 };
 
+void iocsq_touch_framework(void) {
+    iocsq_touch(&objects, IOCSQ_SYNC);
+}
+
+void iocsq_lock_framework(void) {
+    iocsq_lock_state_for(NULL, 0);
+    iocsq_touch_framework();
+}
+
 /* ---- Handles ---- */
 static struct iocsq_wdf_object *object_of(const void *handle) {
-    iocsq_lock_state();
+    iocsq_lock_state_for(&objects, IOCSQ_LOOKS);
     struct iocsq_wdf_object *at = objects;
     while (at && (const void *)at != handle) {
         at = at->next;
@@ -99,7 +108,7 @@ static size_t context_size(const WDF_OBJECT_ATTRIBUTES *attributes) {
 }
 
 static void add_object(struct iocsq_wdf_object *object) {
-    iocsq_lock_state();
+    iocsq_lock_framework();
     object->next = objects;
     objects = object;
     iocsq_unlock_state();
@@ -118,6 +127,7 @@ void *iocsq_wdf_make(enum iocsq_wdf_kind kind, size_t size, const WDF_OBJECT_ATT
         free(context);
         return NULL;
     }
+    iocsq_begin_memory(context, context_size(attributes));
     made->kind = kind;
     made->attributes = *attributes;
     made->context = context;
@@ -132,7 +142,7 @@ void *iocsq_wdf_make(enum iocsq_wdf_kind kind, size_t size, const WDF_OBJECT_ATT
 
 /* ---- Ends ---- */
 static struct iocsq_wdf_object *child_of(const struct iocsq_wdf_object *parent) {
-    iocsq_lock_state();
+    iocsq_lock_framework();
     struct iocsq_wdf_object *at = objects;
     while (at && at->parent != parent) {
         at = at->next;
@@ -142,7 +152,7 @@ static struct iocsq_wdf_object *child_of(const struct iocsq_wdf_object *parent) 
 }
 
 static void remove_object(const struct iocsq_wdf_object *object) {
-    iocsq_lock_state();
+    iocsq_lock_framework();
     struct iocsq_wdf_object **at = &objects;
     while (*at && *at != object) {
         at = &(*at)->next;
@@ -164,7 +174,7 @@ static bool is_below(const struct iocsq_wdf_object *object, const struct iocsq_w
  * started. */
 static struct iocsq_wdf_object *runs_below(const struct iocsq_wdf_object *above) {
     struct iocsq_wdf_object *found = NULL;
-    iocsq_lock_state();
+    iocsq_lock_framework();
     for (struct iocsq_wdf_object *at = objects; at; at = at->next) {
         if (is_below(at, above)) {
             at->ends = true;
@@ -218,7 +228,7 @@ void iocsq_wdf_end(struct iocsq_wdf_object *object) {
     if (object->attributes.EvtCleanupCallback) {
         object->attributes.EvtCleanupCallback(handle_of(object));
     }
-    iocsq_lock_state();
+    iocsq_lock_framework();
     object->ended = true;
     object->parent = NULL;
     bool held = object->held > 0;
@@ -273,7 +283,7 @@ VOID WdfObjectDelete(WDFOBJECT Object) {
 VOID IocsqWdfReference(WDFOBJECT Handle, LONG Change) {
     const char *call = Change > 0 ? "WdfObjectReference" : "WdfObjectDereference";
     struct iocsq_wdf_object *object = any_object(Handle, call);
-    iocsq_lock_state();
+    iocsq_lock_framework();
     if (Change < 0 && object->held == 0) {
         iocsq_disagree(NULL, "WdfObjectDereference of a %s, more often than it was referenced",
                        kind_names[object->kind]);

@@ -43,6 +43,9 @@ void *iocsq_wdf_make(enum iocsq_wdf_kind kind, size_t size, const WDF_OBJECT_ATT
 /* Ends an object, and before it those of which it is the parent. First nothing of them runs any
  * more, since each may use all others until then. */
 void iocsq_wdf_end(struct iocsq_wdf_object *object);
+/* The state's lock, for what the framework keeps: it orders all its calls. */
+void iocsq_lock_framework(void);
+void iocsq_touch_framework(void);
 void iocsq_wdf_check_dereferenced(void); /* as the driver is unloaded */
 /* The object of a handle, which is to be of this kind; otherwise reports the call. */
 void *iocsq_wdf_known(const void *handle, enum iocsq_wdf_kind kind, const char *call);

@@ -31,7 +31,7 @@ static struct iocsq_wdf_request **link_of(uint32_t index, uint32_t use) {
 }
 
 static struct iocsq_wdf_request *look_up(uint32_t index, uint32_t use) {
-    iocsq_lock_state();
+    iocsq_lock_framework();
     struct iocsq_wdf_request *r = *link_of(index, use);
     iocsq_unlock_state();
     return r;
@@ -55,7 +55,7 @@ struct iocsq_wdf_request *iocsq_wdf_find(WDFREQUEST handle, const char *call,
         iocsq_disagree(NULL, "%s of %p, which is no WDFREQUEST", call, (void *)handle);
     }
     *irp = iocsq_irp_number(index);
-    iocsq_lock_state();
+    iocsq_lock_framework();
     struct iocsq_wdf_request *r = *link_of(index, (uint32_t)(word / IOCSQ_IRPS));
     r = r && !is_gone(r) ? r : NULL;
     iocsq_unlock_state();
@@ -115,7 +115,7 @@ struct iocsq_wdf_request *iocsq_wdf_begin(struct iocsq_wdf_device *device, PIRP 
     r->irp = iocsq_irp_at(irp);
     r->use = r->irp->use;
     r->references = 1;
-    iocsq_lock_state();
+    iocsq_lock_framework();
     r->older = requests[r->irp->index];
     requests[r->irp->index] = r;
     iocsq_unlock_state();
@@ -123,7 +123,7 @@ struct iocsq_wdf_request *iocsq_wdf_begin(struct iocsq_wdf_device *device, PIRP 
 }
 
 void iocsq_wdf_refer(struct iocsq_wdf_request *r, int change) {
-    iocsq_lock_state();
+    iocsq_lock_framework();
     r->references += (uint32_t)change;
     bool ends = r->references == 0 && r->object.held == 0 && !r->object.ends;
     r->object.ends = r->object.ends || ends;
@@ -134,7 +134,7 @@ void iocsq_wdf_refer(struct iocsq_wdf_request *r, int change) {
 }
 
 void iocsq_wdf_remove(const struct iocsq_wdf_request *r) {
-    iocsq_lock_state();
+    iocsq_lock_framework();
     *link_of(r->irp->index, r->use) = r->older;
     iocsq_unlock_state();
 }

@@ -45,6 +45,7 @@ static void call_item(struct _IO_WORKITEM *item) {
 }
 
 static void run_first_work(void) {
+    iocsq_touch(&first_work, IOCSQ_CHANGES);
     struct _IO_WORKITEM *item = first_work;
     PDEVICE_OBJECT device = item->device;
     first_work = item->next;
@@ -52,6 +53,7 @@ static void run_first_work(void) {
     if (item->of_executive) {
         item->of_executive->List.Flink = NULL;
     }
+    uint32_t part = iocsq_begin_part(item);
     iocsq_unlock_state();
     iocsq_begin_routine("a work item");
     if (item->of_executive) {
@@ -61,11 +63,12 @@ static void run_first_work(void) {
     }
     iocsq_end_routine("a work item", PASSIVE_LEVEL);
     iocsq_let_go_of_device(device);
-    iocsq_lock_state();
+    iocsq_end_part(&items_allocated, part);
+    iocsq_lock_state_for(&first_work, IOCSQ_CHANGES);
 }
 
 static void *run_worker(void *of) {
-    iocsq_lock_state();
+    iocsq_lock_state_for(&first_work, IOCSQ_CHANGES);
     while (iocsq_await(has_work, NULL, IOCSQ_FOR_EVER, "a work item") && first_work) {
         run_first_work();
     }
@@ -74,6 +77,8 @@ static void *run_worker(void *of) {
 }
 
 static void queue(struct _IO_WORKITEM *item) {
+    iocsq_touch(&first_work, IOCSQ_CHANGES);
+    iocsq_touch(item, IOCSQ_CHANGES | IOCSQ_RELEASES);
     for (int at = 0; at < WORKERS && !workers[at]; at++) {
         workers[at] = IocsqThread(run_worker, NULL);
     }
@@ -121,7 +126,7 @@ VOID NTAPI IoQueueWorkItem(PIO_WORKITEM IoWorkItem, PIO_WORKITEM_ROUTINE WorkerR
                            WORK_QUEUE_TYPE QueueType, PVOID Context) {
     (void)QueueType;
     iocsq_log_of_driver("IoQueueWorkItem");
-    iocsq_lock_state();
+    iocsq_lock_state_for(IoWorkItem, IOCSQ_CHANGES);
     if (IoWorkItem->queued) {
         iocsq_disagree(NULL, "IoQueueWorkItem of a work item that is queued already");
     }
@@ -133,7 +138,7 @@ BOOLEAN NTAPI IoTryQueueWorkItem(PIO_WORKITEM IoWorkItem, PIO_WORKITEM_ROUTINE_E
                                  WORK_QUEUE_TYPE QueueType, PVOID Context) {
     (void)QueueType;
     iocsq_log_of_driver("IoTryQueueWorkItem");
-    iocsq_lock_state();
+    iocsq_lock_state_for(IoWorkItem, IOCSQ_SYNC);
     bool queues = !IoWorkItem->queued;
     if (queues) {
         queue_item(IoWorkItem, NULL, WorkerRoutine, Context);
@@ -150,7 +155,7 @@ VOID NTAPI IoQueueWorkItemEx(PIO_WORKITEM IoWorkItem, PIO_WORKITEM_ROUTINE_EX Wo
 }
 
 static void end_item(const struct _IO_WORKITEM *item, bool of_driver, const char *call) {
-    iocsq_lock_state();
+    iocsq_lock_state_for(item, IOCSQ_CHANGES);
     if (item->queued) {
         iocsq_disagree(NULL, "%s of a work item that is queued", call);
     }
@@ -179,7 +184,7 @@ VOID NTAPI ExQueueWorkItem(PWORK_QUEUE_ITEM WorkItem, WORK_QUEUE_TYPE QueueType)
     }
     iocsq_expect_nonpaged(WorkItem, "a work item");
     iocsq_log_of_driver("ExQueueWorkItem");
-    iocsq_lock_state();
+    iocsq_lock_state_for(WorkItem, IOCSQ_CHANGES);
     if (WorkItem->List.Flink) {
         iocsq_disagree(NULL, "ExQueueWorkItem of a work item that is queued already, or that was "
                              "not initialized");
@@ -197,6 +202,7 @@ static const void *memory_of(const struct _IO_WORKITEM *item) {
 }
 
 void iocsq_check_no_work(const void *from, size_t size, const char *what) {
+    iocsq_touch(&first_work, IOCSQ_LOOKS);
     for (const struct _IO_WORKITEM *at = first_work; at; at = at->next) {
         if (memory_of(at) && (uintptr_t)memory_of(at) - (uintptr_t)from < size) {
             iocsq_disagree(NULL, "%s, and a work item in it is queued", what);
@@ -204,11 +210,9 @@ void iocsq_check_no_work(const void *from, size_t size, const char *what) {
     }
 }
 
+/* Those that are queued are run first: each keeps its device, and so its driver. */
 void iocsq_end_works(void) {
-    if (items_allocated > 0) {
-        iocsq_disagree(NULL, "the driver was unloaded, and a work item of it was not freed");
-    }
-    iocsq_lock_state();
+    iocsq_lock_state_for(&first_work, IOCSQ_CHANGES);
     ending = true;
     iocsq_state_changed();
     iocsq_unlock_state();
@@ -217,4 +221,7 @@ void iocsq_end_works(void) {
         workers[at] = NULL; /* another driver, loaded after this one, begins anew */
     }
     ending = false;
+    if (items_allocated > 0) {
+        iocsq_disagree(NULL, "the driver was unloaded, and a work item of it was not freed");
+    }
 }

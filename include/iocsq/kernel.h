@@ -20,7 +20,8 @@ VOID NTAPI KeLowerIrql(KIRQL NewIrql);
 #define KeLeaveCriticalRegion() ((void)0)
 #define KeEnterGuardedRegion() ((void)0)
 #define KeLeaveGuardedRegion() ((void)0)
-#define KeMemoryBarrier() __atomic_thread_fence(__ATOMIC_SEQ_CST)
+VOID IocsqMemoryBarrier(VOID); /* a call: gcc warns of a fence with -fsanitize=thread */
+#define KeMemoryBarrier() IocsqMemoryBarrier()
 
 typedef ULONG_PTR KSPIN_LOCK, *PKSPIN_LOCK;
 VOID NTAPI KeInitializeSpinLock(PKSPIN_LOCK SpinLock);
@@ -217,6 +218,7 @@ typedef struct _KDPC {
     PVOID SystemArgument1;
     PVOID SystemArgument2;
     BOOLEAN Queued;
+    BOOLEAN Periodic; /* a timer with a period has queued it */
 } KDPC, *PKDPC, *PRKDPC;
 VOID NTAPI KeInitializeDpc(PRKDPC Dpc, PKDEFERRED_ROUTINE DeferredRoutine, PVOID DeferredContext);
 BOOLEAN NTAPI KeInsertQueueDpc(PRKDPC Dpc, PVOID SystemArgument1, PVOID SystemArgument2);
