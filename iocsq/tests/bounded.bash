@@ -1,22 +1,25 @@
 # The tests of the bounded mode, for iocsq/run-tests, whose variables and functions they use: source this.
 # shellcheck disable=SC2154,SC2317 # iocsq/run-tests sets the variables, and expect calls the functions
 
-# The bounded mode by itself: as many schedules as there are; and runs by priorities, against their bound.
+# The bounded mode by itself: as many schedules as there are; runs by priorities, against their bound; and the check of
+# data races, access by access.
 run_explore() {
   local objects program arguments
   if ! objects=$(iocsq_objects "$@" 2>"$work/errors"); then
     fail "$* explore: not compiled" "$work/errors"
     return
   fi
-  for program in explore priorities; do
-    "$@" "$objects"/*.o "$objects/tests/$program.o" "${library[@]:-$objects/libcsq_plain.a}" -pthread \
-      -o "$work/$program" 2>"$work/errors" || fail "$* $program: not linked" "$work/errors"
+  for program in explore priorities races arena; do
+    "$@" "$objects"/*.o "$objects/tests/$program.o" "${library[@]:-$objects/libcsq_plain.a}" \
+      "${wraps[@]}" -pthread -o "$work/$program" 2>"$work/errors" || fail "$* $program: not linked" "$work/errors"
   done
   for arguments in "1 5 2" "2 3 0" "2 3 1" "2 3 2" "2 4 3" "3 3 1" "3 4 2" "2 3 8"; do
     read -ra numbers <<<"$arguments"
     expect "$* explore: threads, points, preemptions $arguments" "$work/explore" "${numbers[@]}"
   done
-  if [[ $* == *sanitize* ]]; then return; fi # each run would be a process
+  expect "$* races: each case" "$work/races"
+  if [[ $* == *sanitize* ]]; then return; fi # each run would be a process; and the sanitizer has the memory
+  expect "$* arena: the memory of a run" "$work/arena"
   for arguments in "3 1000" "12 4000"; do
     read -ra numbers <<<"$arguments"
     expect "$* priorities: points, runs $arguments" "$work/priorities" "${numbers[@]}"
@@ -33,25 +36,57 @@ ends_with() {
   ((status == 0)) && tail -1 "$work/said" | grep -qxE "$line"
 }
 
-# Each schedule of some scenarios with at most one preemption, for each right driver, and for those of the usual ones whose
-# peeks have effects, and those without an IO_CSQ; of each scenario for one of them.
-# With the address sanitizer each run is a process of its own: the schedules are as many.
+# all_run PREEMPTIONS: a pattern for the last line of a right driver whose accesses are checked.
+all_run() {
+  echo "[0-9]+ schedules of [0-9]+ classes, at most $1, each access of the driver checked, all run, none wrong, no data race"
+}
+
+# runs_all PREEMPTIONS COMMAND..: the same of a driver that may have nothing to insert in these scenarios.
+runs_all() {
+  local line
+  line=$(all_run "$1")
+  shift
+  "$@" >"$work/said" 2>&1 || (($? == nothing)) || return 1
+  cat "$work/said"
+  tail -1 "$work/said" | grep -qE "^$line"
+}
+
+# same_classes PROGRAM PREEMPTIONS SCENARIO: the search has each class of schedules that every schedule has, each with what
+# its threads log, and no class has two such logs.
+same_classes() {
+  rm -f "$work"/{all,kept}
+  "$1" --unreduced --traces "$work/all" "$2" "$3" >"$work/said" 2>&1 || (($? == nothing)) || return 1
+  "$1" --traces "$work/kept" "$2" "$3" >"$work/said" 2>&1 || (($? == nothing)) || return 1
+  diff <(sort -u "$work/all") <(sort -u "$work/kept") && ! cut -d' ' -f1 <(sort -u "$work/all") | uniq -d | grep .
+}
+
+# Some scenarios with at most one preemption, for each right driver, and whether each class of two is run; each scenario for
+# one of them.
+# Without the driver's accesses, and with the address sanitizer, for which each run is a process of its own, the schedules
+# are as many.
 run_bounded_right() {
-  local driver program=$work/bounded count scenarios=$top/iocsq/scenarios
-  for driver in "${drivers[@]}" "${hand[@]}" "${kmdf[@]}" usual/{current,idle} unusual/{hold,packets,sweep}; do
-    if ! TEST=bounded iocsq_build "$program" "$driver" 0 "${compilers[0]}" -O1 2>"$work/errors"; then
+  local driver number program=$work/bounded count scenarios=$top/iocsq/scenarios
+  for driver in "${drivers[@]}" "${usual[@]}" "${hand[@]}" "${kmdf[@]}" "${unusual[@]}" "${races[@]}" races/start:50 \
+    races/start:51 races/drain:5{0,1,2,3} races/table:50; do
+    number=0
+    if [[ $driver == *:* ]]; then number=${driver#*:}; fi
+    if ! TEST=bounded iocsq_build "$program" "${driver%:*}" "$number" "${compilers[0]}" -O1 2>"$work/errors"; then
       fail "bounded, $driver: not compiled" "$work/errors"
     else
-      expect "bounded, $driver: at most 1 preemption" ends_with \
-        "[0-9]+ schedules, at most 1 preemption, all run, none wrong" "$program" 1 \
+      expect "bounded, $driver: at most 1 preemption" runs_all "1 preemption" "$program" 1 \
         "$scenarios"/{cancel-insert,close-insert,meet,two-writes,control-wait,control-write}.txt
+      expect "classes of $driver: cancel-insert" same_classes "$program" 1 "$scenarios/cancel-insert.txt"
+      expect "classes of $driver: close-insert" same_classes "$program" 1 "$scenarios/close-insert.txt"
     fi
   done
+  TEST=bounded iocsq_build "$program" races/drain 53 "${compilers[0]}" -O1 &&
+    expect "bounded: what is volatile orders nothing" ends_so "$disagrees" "a data race: t[0-9]+ .* what t[0-9]+ " "1 wrong$" \
+      "$program" --iso 2 "$scenarios/"{three-reads,meet,pass-over}.txt
   TEST=bounded iocsq_build "$program" drivers/slots 0 "${compilers[0]}" -O1 &&
-    expect "bounded: each scenario" ends_with "[0-9]+ schedules, at most 1 preemption, all run, none wrong" "$program" 1 \
-      "$scenarios"/*.txt &&
-    expect "bounded: at most 2 preemptions" ends_with "[0-9]+ schedules, at most 2 preemptions, all run, none wrong" \
-      "$program" 2 "$scenarios"/{cancel,close}-insert.txt
+    expect "bounded: each scenario" ends_with "$(all_run "2 preemptions")" "$program" 2 "$scenarios"/*.txt &&
+    expect "bounded: without the driver's accesses" ends_with \
+      "[0-9]+ schedules, at most 2 preemptions, all run, none wrong" "$program" --races 0 2 \
+      "$scenarios"/{cancel,close}-insert.txt
   count=$(tail -1 "$work/said")
   if [[ $addressed ]] && TEST=bounded iocsq_build "$program" drivers/slots 0 "$addressed" "${address[@]}"; then
     expect "bounded: as many with the address sanitizer" ends_with "$count" "$program" 2 \
@@ -62,12 +97,27 @@ run_bounded_right() {
   fi
 }
 
-# The rows of the table in docs/DRIVERS.md with fewer than 20,000 schedules: they are counted again.
+# Four scenarios of some drivers, with two preemptions.
+run_classes() {
+  local driver scenario program=$work/classes
+  for driver in drivers/slots hand/own usual/startio; do
+    TEST=bounded iocsq_build "$program" "$driver" 0 "$@" 2>"$work/errors" || fail "classes of $driver: not compiled" "$work/errors"
+    for scenario in cancel-removal two-writes close-two meet; do
+      expect "classes of $driver: $scenario, 2 preemptions" same_classes "$program" 2 "$top/iocsq/scenarios/$scenario.txt"
+    done
+  done
+}
+
+# The rows of the table in docs/DRIVERS.md with fewer than 3,000 schedules: they are counted again.
 run_counts() {
   local -a small
   need gcc "the table of schedules" || return
-  awk '/^\| [a-z]+\/[a-z]+ \| 2 \| [0-9]+ \|$/ && $6 < 20000' "$top/docs/DRIVERS.md" >"$work/table"
+  awk '/^\| [a-z]+\/[a-z]+ \| 3 \| [0-9]+ \| [0-9]+ \|$/ && $6 < 3000' "$top/docs/DRIVERS.md" >"$work/table"
   mapfile -t small < <(awk '{ print $2 }' "$work/table")
+  if ((${#small[@]} == 0)); then
+    fail "the table of schedules has no row that is counted again"
+    return
+  fi
   expect "the schedules of ${#small[@]} drivers are as many as DRIVERS says" diff "$work/table" \
     <("$top/iocsq/count-schedules" "${small[@]}")
 }
@@ -80,7 +130,7 @@ bounded_wrong() {
   status=$?
   cat "$work/said" "$work/report"
   grep -m1 '^iocsq: t' "$work/report" >>"$work/reports"
-  schedule=$(sed -nE 's/.*--schedule ([0-9:,]+) shows it again$/\1/p' "$work/said")
+  schedule=$(sed -nE 's/.*--schedule ([0-9a-z:,]+) shows it again$/\1/p' "$work/said")
   ((status == disagrees || status == crash)) && grep -qE -- "$text" "$work/report" &&
     grep -qE "is wrong, with $preemptions preemptions? and none with fewer" "$work/said" &&
     tail -1 "$work/said" | grep -qxE "[0-9]+ schedules, at most $preemptions preemptions?, not all run, 1 wrong" ||
@@ -187,6 +237,8 @@ END
   expect "bounded: no schedule" refused "no schedule: all" "$program" --schedule all "$work/scenario"
   expect "bounded: no depth" refused "argument 2 is a number from 1 to 8" "$program" --depth 9 1 "$work/scenario"
   expect "bounded: another's schedule" refused "it is another test's" "$program" --schedule 99:1 "$work/scenario"
+  expect "bounded: another's place" refused "the schedule names a place to which the run doesn't come" "$program" \
+    --schedule at:1,0:0 "$top/iocsq/scenarios/cancel-insert.txt"
   printf 'open f\n1 close f\n' >"$work/scenario"
   expect "bounded: nothing is inserted" refused "nothing was inserted" "$program" 1 "$work/scenario"
 }
@@ -201,7 +253,7 @@ run_witness() {
     return
   fi
   expect "the shortest, of bounded: 2 preemptions" ends_so 0 \
-    "^The shortest, with 2 preemption.* and none with fewer: .*/bounded --schedule [0-9:,]+ .*/close-insert.txt$" \
+    "^The shortest, with 2 preemption.* and none with fewer: .*/bounded --schedule [0-9a-z:,]+ .*/close-insert.txt$" \
     "went into the queue after IRP_MJ_CLEANUP" "$top/iocsq/shortest" "$folder/storm" "$work/schedule"
   expect "the shortest, of bounded: its schedule" grep -qx "p1 arm 0" "$work/schedule"
 }

@@ -74,8 +74,9 @@ static char remembered[LINE]; /* the schedule that the scenario names; empty: no
 
 /* ---- The calls ---- */
 static void open_file(const struct call *call) {
-    call->file->object = IocsqOpen(driver); /* null where the driver refuses: it may allow one at a
-                                             * time */
+    PFILE_OBJECT object = IocsqOpen(driver);
+    IocsqShared(call->file, TRUE);
+    call->file->object = object; /* null where the driver refuses: it may allow one at a time */
 }
 
 static void make_known(IOCSQ_REQUEST *sent, PVOID context) {
@@ -87,6 +88,7 @@ static void make_known(IOCSQ_REQUEST *sent, PVOID context) {
 /* The file object to which the request may be sent; then it is made known first. Null: it is being
  * closed. */
 static PFILE_OBJECT begin_request(const struct call *call) {
+    IocsqShared(call->file, FALSE);
     PFILE_OBJECT file = call->file->object; /* another thread may close it meanwhile */
     if (!file || !IocsqReference(file)) {
         KeSetEvent(&call->request->known, IO_NO_INCREMENT, FALSE);
@@ -145,6 +147,7 @@ static void wait_for_request(const struct call *call) {
 }
 
 static void close_file(const struct call *call) {
+    IocsqShared(call->file, TRUE);
     PFILE_OBJECT file = call->file->object;
     call->file->object = NULL;
     if (file) {
@@ -271,7 +274,7 @@ static struct call read_call(struct place at, const struct verb *verb) {
 
 static void read_remembered(struct place at) {
     const char *word = next_word();
-    if (!word || word[strspn(word, "pct0123456789:,")] || remembered[0]) {
+    if (!word || word[strspn(word, "pctabdef0123456789:,")] || remembered[0]) {
         refuse(at, remembered[0] ? "a second schedule" : "not a schedule, as in 'schedule 4:1,9:1'",
                word);
     }
@@ -460,8 +463,47 @@ static int draw_all(int argc, char **argv) {
     return inserted ? 0 : IOCSQ_TESTED_NOTHING;
 }
 
+/* Takes `--traces FILE`, to which a line for each schedule is added. */
+static bool take_traces(int *argc, char ***argv) {
+    if (*argc < 3 || strcmp((*argv)[1], "--traces") != 0) {
+        return false;
+    }
+    FILE *to = fopen((*argv)[2], "a");
+    if (!to) {
+        perror((*argv)[2]);
+        exit(2);
+    }
+    IocsqTraces(to);
+    *argc -= 2;
+    *argv += 2;
+    return true;
+}
+
+static bool take_unreduced(int *argc, char ***argv) {
+    bool taken = *argc > 1 && strcmp((*argv)[1], "--unreduced") == 0;
+    if (taken) {
+        IocsqReduce(FALSE);
+        *argc -= 1;
+        *argv += 1;
+    }
+    return taken;
+}
+
+static bool take_seconds(int *argc, char ***argv) {
+    long limit;
+    bool taken = take_number(argc, argv, "--seconds", 1000000, &limit, USAGE);
+    if (taken) {
+        time_over = seconds() + (double)limit;
+    }
+    return taken;
+}
+
 int main(int argc, char **argv) {
-    take_stop(&argc, &argv, USAGE);
+    IocsqRaces(1);
+    IocsqReduce(TRUE);
+    while (take_option(&argc, &argv, USAGE) || take_unreduced(&argc, &argv) ||
+           take_traces(&argc, &argv) || take_seconds(&argc, &argv)) {
+    }
     bool replays = argc == 4 && strcmp(argv[1], "--schedule") == 0;
     if (argc < 3) {
         fprintf(stderr, "%s\n", USAGE);

@@ -8,9 +8,11 @@
 #include <string.h>
 #include <time.h>
 
-#define USAGE                                                                              \
-    "bounded [--seconds N] PREEMPTIONS SCENARIO.., bounded --depth DEPTH RUNS SCENARIO.. or "  \
-    "bounded [--stop CALL] --schedule SCHEDULE SCENARIO"
+#define USAGE                                                                                      \
+    "bounded [OPTION..] [--seconds N] PREEMPTIONS SCENARIO.., bounded [OPTION..] --depth DEPTH "   \
+    "RUNS "                                                                                        \
+    "SCENARIO.. or bounded [OPTION..] [--stop CALL] --schedule SCHEDULE SCENARIO; an OPTION is "   \
+    "--races LEVEL, --iso, --unreduced or --traces FILE"
 
 static void run(void *context);
 static void read_scenario(const char *path);
@@ -31,7 +33,8 @@ static double seconds(void) {
 
 /* What came of the scenarios with at most so many preemptions. */
 struct level {
-    ULONG64 schedules;
+    ULONG64 schedules, classes;
+    bool checked; /* the driver's accesses were */
     bool inserted;
     int unfinished; /* scenarios, for want of time */
 };
@@ -56,7 +59,7 @@ static void check_explored(const char *path, const IOCSQ_EXPLORED *explored, ULO
                "again\n",
                path, (unsigned long long)explored->Schedules,
                preemptions_of(explored->Preemptions),
-               explored->Schedule[0] ? explored->Schedule : "0:0");
+               explored->Schedule);
     }
     printf("%llu schedules, at most %s, not all run%s\n", (unsigned long long)schedules,
            preemptions_of(explored->Preemptions), itself ? "" : ", 1 wrong");
@@ -70,6 +73,8 @@ static void explore(struct scenario *s, ULONG most, struct level *level, bool pr
     IOCSQ_EXPLORED explored = IocsqExplore(run, NULL, most);
     s->schedules = explored.Schedules;
     level->schedules += explored.Schedules;
+    level->classes += explored.Classes;
+    level->checked = explored.Checked;
     level->inserted = level->inserted || explored.Inserted > 0;
     level->unfinished += explored.Unfinished;
     check_explored(s->path, &explored, level->schedules);
@@ -101,7 +106,7 @@ static int by_schedules(const void *first, const void *second) {
 
 /* All scenarios with at most so many preemptions: first those that had the fewest schedules. */
 static struct level explore_level(struct scenario *scenarios, int count, ULONG most, bool last) {
-    struct level level = { 0, false, 0 };
+    struct level level = { 0 };
     for (int at = 0; at < count; at++) {
         if (is_time_over()) {
             level.unfinished++;
@@ -127,8 +132,13 @@ static int print_level(const struct level *level, ULONG most, bool all) {
     if (!level->inserted) {
         fprintf(stderr, "iocsq: nothing was inserted: no scenario sent what the driver queues\n");
     }
-    printf("%llu schedules, at most %s, %s run, none wrong%s\n",
-           (unsigned long long)level->schedules, preemptions_of(most), all ? "all" : "not all",
+    printf("%llu schedules", (unsigned long long)level->schedules);
+    if (level->checked) {
+        printf(" of %llu classes", (unsigned long long)level->classes);
+    }
+    printf(", at most %s%s, %s run, none wrong%s%s\n", preemptions_of(most),
+           level->checked ? ", each access of the driver checked" : "", all ? "all" : "not all",
+           level->checked ? ", no data race" : "",
            level->inserted ? "" : ", and nothing inserted");
     return level->inserted ? 0 : IOCSQ_TESTED_NOTHING;
 }
@@ -136,7 +146,7 @@ static int print_level(const struct level *level, ULONG most, bool all) {
 /* First all scenarios without a preemption, then with one, and so on: so what is found first has
  * the fewest. */
 static int explore_levels(struct scenario *scenarios, int count, ULONG preemptions) {
-    struct level before = { 0, false, 0 }, level = before;
+    struct level before = { 0 }, level = before;
     ULONG most = 0;
     for (;; most++, before = level) {
         level = explore_level(scenarios, count, most, most == preemptions);
@@ -150,12 +160,8 @@ static int explore_levels(struct scenario *scenarios, int count, ULONG preemptio
 }
 
 static int explore_all(int argc, char **argv) {
-    bool limited = strcmp(argv[1], "--seconds") == 0;
-    int first = limited ? 4 : 2, count = argc > first ? argc - first : 0;
-    if (limited) {
-        time_over = seconds() + (double)number_of_argument(argc, argv, 2, 1, 1000000, USAGE);
-    }
-    ULONG preemptions = (ULONG)number_of_argument(argc, argv, first - 1, 0, 8, USAGE);
+    int first = 2, count = argc > first ? argc - first : 0;
+    ULONG preemptions = (ULONG)number_of_argument(argc, argv, 1, 0, 8, USAGE);
     struct scenario *scenarios = calloc((size_t)count + 1, sizeof *scenarios);
     if (!scenarios) {
         return 1;

@@ -18,6 +18,10 @@ static void times(void) {
     KeQueryTickCount(&before);
     CHECK(before.QuadPart >= 0 && KeQueryTimeIncrement() > 0);
     CHECK(KeQueryPerformanceCounter(&frequency).QuadPart > 0 && frequency.QuadPart == 10000000);
+    KeQuerySystemTime(&before);
+    while (after.QuadPart < before.QuadPart + 20000) { /* a driver that only asks for the time */
+        KeQuerySystemTime(&after);
+    }
 }
 
 /* ---- Numbers, strings, memory ---- */

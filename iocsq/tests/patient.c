@@ -12,7 +12,7 @@
  */
 #include "program.h"
 
-#define USAGE "patient [--stop CALL] THREADS ROUNDS SEED"
+#define USAGE "patient [--races LEVEL] [--iso] [--stop CALL] THREADS ROUNDS SEED"
 enum { THREADS = 6, ROUNDS = 40, FILES = 2, REQUESTS = 2, BYTES = 16, LONGEST = 4, SECONDS = 100 };
 enum { CANCELS = 4, PAUSE = 20 }; /* PAUSE: microseconds */
 enum { MORE_REQUESTS = 8, MORE_ROUNDS = 10, TIMES = 2 }; /* so many rounds, so many times */
@@ -128,7 +128,9 @@ static void run_more_rounds(int threads) {
 }
 
 int main(int argc, char **argv) {
-    take_stop(&argc, &argv, USAGE);
+    IocsqRaces(1);
+    while (take_option(&argc, &argv, USAGE)) {
+    }
     int threads = (int)number_of_argument(argc, argv, 1, 1, THREADS, USAGE);
     int rounds = (int)number_of_argument(argc, argv, 2, 1, ROUNDS, USAGE);
     uint32_t seed = (uint32_t)number_of_argument(argc, argv, 3, 1, 1000000000, USAGE);

@@ -75,13 +75,37 @@ static inline long number_of_argument(int argc, char **argv, int at, long least,
     return value;
 }
 
-/* Takes `--stop N` off the front of the arguments: the run stops for a debugger at call N. */
-static inline void take_stop(int *argc, char ***argv, const char *usage) {
-    if (*argc > 1 && strcmp((*argv)[1], "--stop") == 0) {
-        IocsqStop((ULONG64)number_of_argument(*argc, *argv, 2, 0, 1000000000, usage));
-        *argc -= 2;
-        *argv += 2;
+/* Takes this option and its number off the front of the arguments. Whether it is there. */
+static inline bool take_number(int *argc, char ***argv, const char *option, long most, long *number,
+                               const char *usage) {
+    if (*argc < 2 || strcmp((*argv)[1], option) != 0) {
+        return false;
     }
+    *number = number_of_argument(*argc, *argv, 2, 0, most, usage);
+    *argc -= 2;
+    *argv += 2;
+    return true;
+}
+
+/* Takes `--stop N`: the run stops for a debugger at call N. Or `--races LEVEL` (IocsqRaces). Or
+ * `--iso`: what is volatile orders nothing (IocsqVolatile). */
+static inline bool take_option(int *argc, char ***argv, const char *usage) {
+    long number;
+    if (take_number(argc, argv, "--stop", 1000000000, &number, usage)) {
+        IocsqStop((ULONG64)number);
+        return true;
+    }
+    if (take_number(argc, argv, "--races", 3, &number, usage)) {
+        IocsqRaces((ULONG)number);
+        return true;
+    }
+    bool iso = *argc > 1 && strcmp((*argv)[1], "--iso") == 0;
+    if (iso) {
+        IocsqVolatile(FALSE);
+        *argc -= 1;
+        *argv += 1;
+    }
+    return iso;
 }
 
 #endif

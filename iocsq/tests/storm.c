@@ -4,6 +4,9 @@
  *     storm THREADS TURNS SEED                    threads run freely, with delays at random
  *     storm THREADS TURNS SEED turns [SWITCHES]   one runs at a time, as the seed draws; at most
  *                                                 SWITCHES switches
+ *     storm --races LEVEL THREADS ..              checks the driver's accesses (IocsqRaces), in
+ *                                                 turns
+ *     storm --iso THREADS ..                      volatile orders nothing (IocsqVolatile)
  *     storm --stop CALL THREADS ..                stops for a debugger (SIGTRAP) as it makes the
  *                                                 call of this number, as a report has it; in turns
  *
@@ -19,7 +22,7 @@
 
 #include <stdatomic.h>
 
-#define USAGE "storm [--stop CALL] THREADS TURNS SEED [turns [SWITCHES]]"
+#define USAGE "storm [--races LEVEL] [--iso] [--stop CALL] THREADS TURNS SEED [turns [SWITCHES]]"
 enum { THREADS = 32, CANCELLERS = 3, OPEN = 6, MINE = 12, BYTES = 16, LONGEST = 4, SECONDS = 100 };
 enum { SCARCE = 64 }; /* of so many allocations of the driver's one fails */
 enum { SHORTEST_PAUSE = 20, LONGEST_PAUSE = 320 }; /* microseconds */
@@ -277,7 +280,9 @@ static long number(int argc, char **argv, int at, long least, long most) {
 }
 
 int main(int argc, char **argv) {
-    take_stop(&argc, &argv, USAGE);
+    IocsqRaces(1);
+    while (take_option(&argc, &argv, USAGE)) {
+    }
     int threads = (int)number(argc, argv, 1, 1, THREADS);
     turns = number(argc, argv, 2, 1, 1000000000);
     uint32_t seed = (uint32_t)number(argc, argv, 3, 1, 1000000000);
