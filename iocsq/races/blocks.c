@@ -1,6 +1,6 @@
 /* Each write leaves blocks of the pool to a DPC, which frees them; they are as large as a request's
  * system buffer, which may lie where one was. A barrier stands where two words have an order. */
-#include "../drivers/waiting.h"
+#include "device.h"
 
 #define POOL_TAG 'kolB'
 enum { BLOCKS = 12 };
@@ -20,7 +20,7 @@ typedef struct _EXTENSION {
 } EXTENSION, *PEXTENSION;
 
 DRIVER_INITIALIZE DriverEntry;
-static DRIVER_DISPATCH Read, Write, Cleanup;
+static DRIVER_DISPATCH Read, Write;
 static DRIVER_UNLOAD Unload;
 static KDEFERRED_ROUTINE FreeBlocks;
 
@@ -85,13 +85,6 @@ static NTSTATUS NTAPI Write(PDEVICE_OBJECT DeviceObject, PIRP Irp) {
     return STATUS_SUCCESS;
 }
 
-static NTSTATUS NTAPI Cleanup(PDEVICE_OBJECT DeviceObject, PIRP Irp) {
-    PEXTENSION Extension = DeviceObject->DeviceExtension;
-    CleanUp(&Extension->Reads, FileOf(Irp));
-    Finish(Irp, STATUS_SUCCESS, 0);
-    return STATUS_SUCCESS;
-}
-
 static VOID NTAPI Unload(PDRIVER_OBJECT DriverObject) {
     PEXTENSION Extension = DriverObject->DeviceObject->DeviceExtension;
     KeInsertQueueDpc(&Extension->Dpc, NULL, NULL);
@@ -100,20 +93,12 @@ static VOID NTAPI Unload(PDRIVER_OBJECT DriverObject) {
 }
 
 NTSTATUS NTAPI DriverEntry(PDRIVER_OBJECT DriverObject, PUNICODE_STRING RegistryPath) {
-    PDEVICE_OBJECT DeviceObject;
-    PEXTENSION Extension;
-    NTSTATUS Status = MakeDevice(DriverObject, sizeof(EXTENSION), &DeviceObject);
+    PEXTENSION Extension = Begin(DriverObject, sizeof(EXTENSION), Read, Write, Unload);
     UNREFERENCED_PARAMETER(RegistryPath);
-    if (!NT_SUCCESS(Status)) {
-        return Status;
+    if (Extension == NULL) {
+        return STATUS_INSUFFICIENT_RESOURCES;
     }
-    Extension = DeviceObject->DeviceExtension;
-    InitializeWaiting(&Extension->Reads, CompleteWaiting);
     KeInitializeSpinLock(&Extension->BlockLock);
     KeInitializeDpc(&Extension->Dpc, FreeBlocks, Extension);
-    DriverObject->MajorFunction[IRP_MJ_READ] = Read;
-    DriverObject->MajorFunction[IRP_MJ_WRITE] = Write;
-    DriverObject->MajorFunction[IRP_MJ_CLEANUP] = Cleanup;
-    DriverObject->DriverUnload = Unload;
     return STATUS_SUCCESS;
 }

@@ -1,6 +1,6 @@
 /* Each write makes a context that it and a work item use, and the last of them frees. Wrong: the
  * work item lets go of the context, and reads it after that. */
-#include "../drivers/waiting.h"
+#include "device.h"
 
 #define POOL_TAG 'txtC'
 
@@ -17,7 +17,7 @@ typedef struct _CONTEXT {
 } CONTEXT, *PCONTEXT;
 
 DRIVER_INITIALIZE DriverEntry;
-static DRIVER_DISPATCH Read, Write, Cleanup;
+static DRIVER_DISPATCH Read, Write;
 static DRIVER_UNLOAD Unload;
 static IO_WORKITEM_ROUTINE Work;
 
@@ -77,13 +77,6 @@ static NTSTATUS NTAPI Write(PDEVICE_OBJECT DeviceObject, PIRP Irp) {
     return Status;
 }
 
-static NTSTATUS NTAPI Cleanup(PDEVICE_OBJECT DeviceObject, PIRP Irp) {
-    PEXTENSION Extension = DeviceObject->DeviceExtension;
-    CleanUp(&Extension->Reads, FileOf(Irp));
-    Finish(Irp, STATUS_SUCCESS, 0);
-    return STATUS_SUCCESS;
-}
-
 static VOID NTAPI Unload(PDRIVER_OBJECT DriverObject) {
     PEXTENSION Extension = DriverObject->DeviceObject->DeviceExtension;
     ExWaitForRundownProtectionRelease(&Extension->Works);
@@ -91,19 +84,11 @@ static VOID NTAPI Unload(PDRIVER_OBJECT DriverObject) {
 }
 
 NTSTATUS NTAPI DriverEntry(PDRIVER_OBJECT DriverObject, PUNICODE_STRING RegistryPath) {
-    PDEVICE_OBJECT DeviceObject;
-    PEXTENSION Extension;
-    NTSTATUS Status = MakeDevice(DriverObject, sizeof(EXTENSION), &DeviceObject);
+    PEXTENSION Extension = Begin(DriverObject, sizeof(EXTENSION), Read, Write, Unload);
     UNREFERENCED_PARAMETER(RegistryPath);
-    if (!NT_SUCCESS(Status)) {
-        return Status;
+    if (Extension == NULL) {
+        return STATUS_INSUFFICIENT_RESOURCES;
     }
-    Extension = DeviceObject->DeviceExtension;
-    InitializeWaiting(&Extension->Reads, CompleteWaiting);
     ExInitializeRundownProtection(&Extension->Works);
-    DriverObject->MajorFunction[IRP_MJ_READ] = Read;
-    DriverObject->MajorFunction[IRP_MJ_WRITE] = Write;
-    DriverObject->MajorFunction[IRP_MJ_CLEANUP] = Cleanup;
-    DriverObject->DriverUnload = Unload;
     return STATUS_SUCCESS;
 }

@@ -12,7 +12,7 @@
  *     53  a volatile flag says whose a mailbox is, which is right where volatile orders (not with
  *         --iso)
  */
-#include "../drivers/waiting.h"
+#include "device.h"
 
 #if WRONG == 50
 #define FLAG volatile LONG
@@ -32,7 +32,7 @@ typedef struct _EXTENSION {
 } EXTENSION, *PEXTENSION;
 
 DRIVER_INITIALIZE DriverEntry;
-static DRIVER_DISPATCH Read, Write, Cleanup;
+static DRIVER_DISPATCH Read, Write;
 static DRIVER_UNLOAD Unload;
 static KDEFERRED_ROUTINE Serve;
 
@@ -141,13 +141,6 @@ static NTSTATUS NTAPI Write(PDEVICE_OBJECT DeviceObject, PIRP Irp) {
     return STATUS_SUCCESS;
 }
 
-static NTSTATUS NTAPI Cleanup(PDEVICE_OBJECT DeviceObject, PIRP Irp) {
-    PEXTENSION Extension = DeviceObject->DeviceExtension;
-    CleanUp(&Extension->Reads, FileOf(Irp));
-    Finish(Irp, STATUS_SUCCESS, 0);
-    return STATUS_SUCCESS;
-}
-
 static VOID NTAPI Unload(PDRIVER_OBJECT DriverObject) {
 #if WRONG == 52
     PEXTENSION Extension = DriverObject->DeviceObject->DeviceExtension;
@@ -158,20 +151,12 @@ static VOID NTAPI Unload(PDRIVER_OBJECT DriverObject) {
 }
 
 NTSTATUS NTAPI DriverEntry(PDRIVER_OBJECT DriverObject, PUNICODE_STRING RegistryPath) {
-    PDEVICE_OBJECT DeviceObject;
-    PEXTENSION Extension;
-    NTSTATUS Status = MakeDevice(DriverObject, sizeof(EXTENSION), &DeviceObject);
+    PEXTENSION Extension = Begin(DriverObject, sizeof(EXTENSION), Read, Write, Unload);
     UNREFERENCED_PARAMETER(RegistryPath);
-    if (!NT_SUCCESS(Status)) {
-        return Status;
+    if (Extension == NULL) {
+        return STATUS_INSUFFICIENT_RESOURCES;
     }
-    Extension = DeviceObject->DeviceExtension;
-    InitializeWaiting(&Extension->Reads, CompleteWaiting);
     KeInitializeSpinLock(&Extension->Lock);
     KeInitializeDpc(&Extension->Dpc, Serve, Extension);
-    DriverObject->MajorFunction[IRP_MJ_READ] = Read;
-    DriverObject->MajorFunction[IRP_MJ_WRITE] = Write;
-    DriverObject->MajorFunction[IRP_MJ_CLEANUP] = Cleanup;
-    DriverObject->DriverUnload = Unload;
     return STATUS_SUCCESS;
 }

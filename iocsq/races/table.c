@@ -4,7 +4,7 @@
  *     50  there is one from the beginning, which a write changes once nobody uses it, as rundown
  *         protection tells
  */
-#include "../drivers/waiting.h"
+#include "device.h"
 
 #define POOL_TAG 'lbaT'
 
@@ -20,7 +20,7 @@ typedef struct _EXTENSION {
 } EXTENSION, *PEXTENSION;
 
 DRIVER_INITIALIZE DriverEntry;
-static DRIVER_DISPATCH Read, Write, Cleanup;
+static DRIVER_DISPATCH Read, Write;
 static DRIVER_UNLOAD Unload;
 
 static PTABLE MakeTable(VOID) {
@@ -103,13 +103,6 @@ static NTSTATUS NTAPI Write(PDEVICE_OBJECT DeviceObject, PIRP Irp) {
     return STATUS_SUCCESS;
 }
 
-static NTSTATUS NTAPI Cleanup(PDEVICE_OBJECT DeviceObject, PIRP Irp) {
-    PEXTENSION Extension = DeviceObject->DeviceExtension;
-    CleanUp(&Extension->Reads, FileOf(Irp));
-    Finish(Irp, STATUS_SUCCESS, 0);
-    return STATUS_SUCCESS;
-}
-
 static VOID NTAPI Unload(PDRIVER_OBJECT DriverObject) {
     PEXTENSION Extension = DriverObject->DeviceObject->DeviceExtension;
     if (Extension->Table != NULL) {
@@ -119,23 +112,15 @@ static VOID NTAPI Unload(PDRIVER_OBJECT DriverObject) {
 }
 
 NTSTATUS NTAPI DriverEntry(PDRIVER_OBJECT DriverObject, PUNICODE_STRING RegistryPath) {
-    PDEVICE_OBJECT DeviceObject;
-    PEXTENSION Extension;
-    NTSTATUS Status = MakeDevice(DriverObject, sizeof(EXTENSION), &DeviceObject);
+    PEXTENSION Extension = Begin(DriverObject, sizeof(EXTENSION), Read, Write, Unload);
     UNREFERENCED_PARAMETER(RegistryPath);
-    if (!NT_SUCCESS(Status)) {
-        return Status;
+    if (Extension == NULL) {
+        return STATUS_INSUFFICIENT_RESOURCES;
     }
-    Extension = DeviceObject->DeviceExtension;
-    InitializeWaiting(&Extension->Reads, CompleteWaiting);
     ExInitializeRundownProtection(&Extension->Users);
     ExInitializeFastMutex(&Extension->ChangeLock);
 #if WRONG == 50
     Extension->Table = MakeTable();
 #endif
-    DriverObject->MajorFunction[IRP_MJ_READ] = Read;
-    DriverObject->MajorFunction[IRP_MJ_WRITE] = Write;
-    DriverObject->MajorFunction[IRP_MJ_CLEANUP] = Cleanup;
-    DriverObject->DriverUnload = Unload;
     return STATUS_SUCCESS;
 }

@@ -1,6 +1,6 @@
 /* One timer for all reads, which ends the next one, and a ticket of its last use. Wrong: the ticket
  * is written for the next use though the DPC of the one before may still read it. */
-#include "../drivers/waiting.h"
+#include "device.h"
 
 typedef struct _EXTENSION {
     WAITING Reads;
@@ -11,7 +11,7 @@ typedef struct _EXTENSION {
 } EXTENSION, *PEXTENSION;
 
 DRIVER_INITIALIZE DriverEntry;
-static DRIVER_DISPATCH Read, Write, Cleanup;
+static DRIVER_DISPATCH Read, Write;
 static DRIVER_UNLOAD Unload;
 static KDEFERRED_ROUTINE Tick;
 
@@ -59,13 +59,6 @@ static NTSTATUS NTAPI Write(PDEVICE_OBJECT DeviceObject, PIRP Irp) {
     return STATUS_SUCCESS;
 }
 
-static NTSTATUS NTAPI Cleanup(PDEVICE_OBJECT DeviceObject, PIRP Irp) {
-    PEXTENSION Extension = DeviceObject->DeviceExtension;
-    CleanUp(&Extension->Reads, FileOf(Irp));
-    Finish(Irp, STATUS_SUCCESS, 0);
-    return STATUS_SUCCESS;
-}
-
 static VOID NTAPI Unload(PDRIVER_OBJECT DriverObject) {
     PEXTENSION Extension = DriverObject->DeviceObject->DeviceExtension;
     KeCancelTimer(&Extension->Timer);
@@ -74,21 +67,13 @@ static VOID NTAPI Unload(PDRIVER_OBJECT DriverObject) {
 }
 
 NTSTATUS NTAPI DriverEntry(PDRIVER_OBJECT DriverObject, PUNICODE_STRING RegistryPath) {
-    PDEVICE_OBJECT DeviceObject;
-    PEXTENSION Extension;
-    NTSTATUS Status = MakeDevice(DriverObject, sizeof(EXTENSION), &DeviceObject);
+    PEXTENSION Extension = Begin(DriverObject, sizeof(EXTENSION), Read, Write, Unload);
     UNREFERENCED_PARAMETER(RegistryPath);
-    if (!NT_SUCCESS(Status)) {
-        return Status;
+    if (Extension == NULL) {
+        return STATUS_INSUFFICIENT_RESOURCES;
     }
-    Extension = DeviceObject->DeviceExtension;
-    InitializeWaiting(&Extension->Reads, CompleteWaiting);
     KeInitializeSpinLock(&Extension->Lock);
     KeInitializeTimer(&Extension->Timer);
     KeInitializeDpc(&Extension->Dpc, Tick, Extension);
-    DriverObject->MajorFunction[IRP_MJ_READ] = Read;
-    DriverObject->MajorFunction[IRP_MJ_WRITE] = Write;
-    DriverObject->MajorFunction[IRP_MJ_CLEANUP] = Cleanup;
-    DriverObject->DriverUnload = Unload;
     return STATUS_SUCCESS;
 }
