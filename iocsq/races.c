@@ -36,7 +36,7 @@ struct cell {
     uint64_t at;
     uint32_t run, count;
     uint8_t written, rewritten; /* bytes, once and more than once, since others used them */
-    struct record records[RECORDS];
+    struct record *records; /* RECORDS of them */
 };
 /* The first of a run. It is reported at the next point of its thread, and not in the middle of
  * IoCompleteRequest: so another report comes before, if what the driver does next is wrong in
@@ -57,6 +57,8 @@ struct races {
         uint32_t run; /* the last in which the driver came to it */
     } promoted[PROMOTED];
     struct cell cells[CELLS];
+    uint32_t run, used; /* of the records, which lie side by side, so that a run has few pages */
+    struct record records[CELLS][RECORDS];
 };
 static struct races *races; /* null: nothing is checked */
 static ULONG level;
@@ -83,6 +85,15 @@ void iocsq_begin_races(void) {
 }
 
 /* ---- Cells ---- */
+/* For the next cell of this run. */
+static struct record *take_records(void) {
+    if (races->run != iocsq_run_number()) {
+        races->run = iocsq_run_number();
+        races->used = 0;
+    }
+    return races->records[races->used++];
+}
+
 /* Null: there is none, or too many: then this one isn't watched. */
 static struct cell *cell_at(uint64_t at, bool makes) {
     uint64_t hash = iocsq_mix(at, 11);
@@ -96,6 +107,7 @@ static struct cell *cell_at(uint64_t at, bool makes) {
             c->run = iocsq_run_number();
             c->count = 0;
             c->written = c->rewritten = 0;
+            c->records = take_records();
             return c;
         }
         if (c->run != iocsq_run_number()) {

@@ -17,10 +17,10 @@ struct clock {
 struct object {
     const void *at;
     uint32_t run;
-    bool has_clock, is_word;
+    bool is_word;
     uint64_t changed; /* the last change, */
     uint64_t looked;  /* and the looks since then */
-    struct clock clock;
+    struct clock *clock; /* null: nothing was released to it */
 };
 /* From one point of a thread to its next. */
 struct transition {
@@ -39,6 +39,8 @@ struct traces {
     struct transition transitions[TRANSITIONS];
     struct clock clocks[PARTS];
     struct object objects[OBJECTS];
+    uint32_t clock_count; /* of objects, side by side, so that a run has few pages */
+    struct clock object_clocks[OBJECTS];
 };
 static struct traces *traces; /* null: none are kept */
 
@@ -62,6 +64,7 @@ void iocsq_begin_trace(void) {
     traces->run++;
     memset(traces->clocks, 0, traces->parts * sizeof *traces->clocks);
     traces->parts = 1;
+    traces->clock_count = 0;
     traces->sum = 0;
     memset(traces->last, 0, sizeof traces->last);
     memset(traces->lines, 0, sizeof traces->lines);
@@ -119,7 +122,8 @@ static struct object *object_at(const void *at, bool makes) {
             o->at = at;
             o->run = traces->run;
             o->changed = o->looked = 0;
-            o->has_clock = o->is_word = false;
+            o->clock = NULL;
+            o->is_word = false;
             return o;
         }
     }
@@ -139,11 +143,11 @@ static void join(struct clock *to, const struct clock *from) {
 }
 
 static void release(struct object *o) {
-    if (!o->has_clock) {
-        memset(&o->clock, 0, sizeof o->clock);
-        o->has_clock = true;
+    if (!o->clock) {
+        o->clock = &traces->object_clocks[traces->clock_count++];
+        memset(o->clock, 0, sizeof *o->clock);
     }
-    join(&o->clock, clock_of_part());
+    join(o->clock, clock_of_part());
     clock_of_part()->of[iocsq_own.part]++;
 }
 
@@ -186,8 +190,8 @@ static void touch(uint32_t thread, const void *at, unsigned how) {
         o->looked += looked;
         step(thread, looked);
     }
-    if (how & IOCSQ_ACQUIRES && o->has_clock) {
-        join(clock_of_part(), &o->clock);
+    if (how & IOCSQ_ACQUIRES && o->clock) {
+        join(clock_of_part(), o->clock);
     }
     if (how & IOCSQ_RELEASES) {
         release(o);
@@ -252,7 +256,7 @@ uint32_t iocsq_begin_part(const void *after) {
     if (traces) {
         static const struct clock none;
         const struct object *o = object_at(after, true);
-        iocsq_own.part = new_part(o->has_clock ? &o->clock : &none);
+        iocsq_own.part = new_part(o->clock ? o->clock : &none);
     }
     return before;
 }
