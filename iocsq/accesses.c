@@ -84,6 +84,13 @@ static void check(const void *at, size_t size, unsigned how, const void *place) 
     check_access(at, size, how, touches_of_volatile(how), place);
 }
 
+/* A DPC may come after its memory was freed. */
+static void expect_memory(const void *at) {
+    if (iocsq_own.is_processor) {
+        iocsq_expect_not_freed(at);
+    }
+}
+
 static bool is_checked(const void *at) {
     return iocsq_checks_races() && !iocsq_own.hushed && !iocsq_is_own_stack(at);
 }
@@ -94,9 +101,7 @@ static void access_memory(const volatile void *of, size_t size, unsigned how, co
     if (how & IOCSQ_WRITES) {
         iocsq_note_write(at, size);
     }
-    if (iocsq_own.is_processor) {
-        iocsq_expect_not_freed(at);
-    }
+    expect_memory(at);
     if (is_checked(at)) {
         check(at, size, how, place);
     }
@@ -116,6 +121,7 @@ static void look_at(struct iocsq_irp *i, const char *at, size_t size, unsigned h
     if (size == sizeof(BOOLEAN)) {
         iocsq_hand_look(i);
     }
+    expect_memory(at);
     iocsq_touch(i, IOCSQ_LOOKS);
     if (is_checked(at)) {
         iocsq_access(at, size, how, place);
@@ -199,6 +205,7 @@ static void access_atomic(const volatile void *of, size_t size, bool writes, int
     unsigned touches = (writes ? (unsigned)IOCSQ_CHANGES : 0) |
                        (acquires ? (unsigned)IOCSQ_ACQUIRES : 0) |
                        (releases ? (unsigned)IOCSQ_RELEASES : 0);
+    expect_memory(at);
     if (is_checked(at)) {
         unsigned how = IOCSQ_ATOMIC | (writes ? (unsigned)IOCSQ_WRITES : 0);
         check_access(at, size, how, touches, place);
@@ -218,41 +225,41 @@ static void load_atomic(const volatile void *of, size_t size, int order, const v
 
 #define FETCH(bits, T, name, builtin)                                    \
     T __tsan_atomic##bits##_##name(volatile T *at, T value, int order) { \
-        access_atomic(at, sizeof *at, true, order, PLACE); \
+        access_atomic(at, sizeof *at, true, order, PLACE);               \
         return builtin(at, value, __ATOMIC_SEQ_CST);                     \
     }
-#define ATOMIC(bits, T)                                                                           \
-    T __tsan_atomic##bits##_load(const volatile T *at, int order) {                               \
-        load_atomic(at, sizeof *at, order, PLACE);             \
-        return __atomic_load_n(at, __ATOMIC_SEQ_CST);                                             \
-    }                                                                                             \
-    void __tsan_atomic##bits##_store(volatile T *at, T value, int order) {                        \
-        access_atomic(at, sizeof *at, true, order, PLACE);\
-        __atomic_store_n(at, value, __ATOMIC_SEQ_CST);                                            \
-    }                                                                                             \
-    FETCH(bits, T, exchange, __atomic_exchange_n)                                                 \
-    FETCH(bits, T, fetch_add, __atomic_fetch_add)                                                 \
-    FETCH(bits, T, fetch_sub, __atomic_fetch_sub)                                                 \
-    FETCH(bits, T, fetch_and, __atomic_fetch_and)                                                 \
-    FETCH(bits, T, fetch_or, __atomic_fetch_or)                                                   \
-    FETCH(bits, T, fetch_xor, __atomic_fetch_xor)                                                 \
-    FETCH(bits, T, fetch_nand, __atomic_fetch_nand)                                               \
-    int __tsan_atomic##bits##_compare_exchange_strong(volatile T *at, T *expected, T value,       \
-                                                      int order, int otherwise) {                 \
-        (void)otherwise;                                                                          \
-        access_atomic(at, sizeof *at, *at == *expected, order, PLACE);                            \
-        return __atomic_compare_exchange_n(at, expected, value, 0, __ATOMIC_SEQ_CST,              \
-                                           __ATOMIC_SEQ_CST);                                     \
-    }                                                                                             \
-    int __tsan_atomic##bits##_compare_exchange_weak(volatile T *at, T *expected, T value,         \
-                                                    int order, int otherwise) {                   \
-        return __tsan_atomic##bits##_compare_exchange_strong(at, expected, value, order,          \
-                                                             otherwise);                          \
-    }                                                                                             \
-    T __tsan_atomic##bits##_compare_exchange_val(volatile T *at, T expected, T value, int order,  \
-                                                 int otherwise) {                                 \
-        __tsan_atomic##bits##_compare_exchange_strong(at, &expected, value, order, otherwise);    \
-        return expected;                                                                          \
+#define ATOMIC(bits, T)                                                                          \
+    T __tsan_atomic##bits##_load(const volatile T *at, int order) {                              \
+        load_atomic(at, sizeof *at, order, PLACE);                                               \
+        return __atomic_load_n(at, __ATOMIC_SEQ_CST);                                            \
+    }                                                                                            \
+    void __tsan_atomic##bits##_store(volatile T *at, T value, int order) {                       \
+        access_atomic(at, sizeof *at, true, order, PLACE);                                       \
+        __atomic_store_n(at, value, __ATOMIC_SEQ_CST);                                           \
+    }                                                                                            \
+    FETCH(bits, T, exchange, __atomic_exchange_n)                                                \
+    FETCH(bits, T, fetch_add, __atomic_fetch_add)                                                \
+    FETCH(bits, T, fetch_sub, __atomic_fetch_sub)                                                \
+    FETCH(bits, T, fetch_and, __atomic_fetch_and)                                                \
+    FETCH(bits, T, fetch_or, __atomic_fetch_or)                                                  \
+    FETCH(bits, T, fetch_xor, __atomic_fetch_xor)                                                \
+    FETCH(bits, T, fetch_nand, __atomic_fetch_nand)                                              \
+    int __tsan_atomic##bits##_compare_exchange_strong(volatile T *at, T *expected, T value,      \
+                                                      int order, int otherwise) {                \
+        (void)otherwise;                                                                         \
+        access_atomic(at, sizeof *at, *at == *expected, order, PLACE);                           \
+        return __atomic_compare_exchange_n(at, expected, value, 0, __ATOMIC_SEQ_CST,             \
+                                           __ATOMIC_SEQ_CST);                                    \
+    }                                                                                            \
+    int __tsan_atomic##bits##_compare_exchange_weak(volatile T *at, T *expected, T value,        \
+                                                    int order, int otherwise) {                  \
+        return __tsan_atomic##bits##_compare_exchange_strong(at, expected, value, order,         \
+                                                             otherwise);                         \
+    }                                                                                            \
+    T __tsan_atomic##bits##_compare_exchange_val(volatile T *at, T expected, T value, int order, \
+                                                 int otherwise) {                                \
+        __tsan_atomic##bits##_compare_exchange_strong(at, &expected, value, order, otherwise);   \
+        return expected;                                                                         \
     }
 ATOMIC(8, unsigned char)
 ATOMIC(16, unsigned short)

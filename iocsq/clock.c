@@ -1,6 +1,6 @@
 /* The clock of turns: each turn takes a little time, and a wait only as much as it says. In the
  * bounded mode with traces (traces.h) time goes on by calls that ask for one alone: otherwise each
- * switch would matter to whoever looks at the clock. */
+ * switch would matter to a thread that looks at the clock. */
 #include "internal.h"
 
 enum { TURN = 10000 };

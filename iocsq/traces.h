@@ -57,7 +57,7 @@ void iocsq_end_transition(uint64_t name);
 uint64_t iocsq_predict(uint32_t thread); /* the state that it comes to, if it goes on; 0: unknown */
 uint64_t iocsq_state(uint64_t trace, uint64_t name);
 
-/* For tests of the touches: all threads' lines of the log, each in its order. */
+/* For tests of the search: all threads' lines of the log, each in its order. */
 void iocsq_trace_line(const char *text);
 void iocsq_write_trace(FILE *to); /* of the run that has ended, and its lines */
 
@@ -77,7 +77,7 @@ void iocsq_access(const void *at, size_t size, unsigned how, const void *place);
 void iocsq_begin_memory(const void *at, size_t size); /* nobody had it before */
 /* By this call, which the driver makes from this place; null: unknown. */
 void iocsq_end_memory(const void *at, size_t size, const char *call, const void *place);
-/* Places of plain writes that meet reads on purpose: they are points too, in all runs. */
+/* Places of plain accesses that meet others on purpose: they are points too, in all runs. */
 void iocsq_promote(uintptr_t place);
 void iocsq_forget_promoted(void);
 bool iocsq_all_met(void); /* the driver came to each of them in this run */
