@@ -7,7 +7,7 @@ import measures
 import refusals
 from cases import wrong_picture
 from measures import KINDS, wrong_block, wrong_races, wrong_start, wrong_sums, wrong_time, wrong_totals
-from program import Ended
+from program import SECONDS, Ended
 from refusals import NO_MEMORY, NO_READ, NO_THREAD, NO_WRITE, ONE_RUN, wrong_memory, wrong_reads, wrong_slowly, wrong_threads, wrong_writes
 
 # The totals of a run.
@@ -81,6 +81,7 @@ def right_ends():
     yield 'totals of two runs', wrong_totals(always(TEXT * 2), 2, [], 128)
     yield 'totals of busy workers', wrong_totals(always(BUSY), 1, ['--busy-workers=1'], 128)
     yield 'races', wrong_races(always(TEXT * 3 + without('cleanup') * 2), 5, 3, [])
+    yield 'races in the last runs', wrong_races(always(TEXT * 3 + without('cleanup') * 2), 5, 30, [])
     yield 'a start', wrong_start(always(ONE_RUN, reported=b'sssssss'))
     yield 'a time', wrong_time(always(TEXT), b'milliseconds 1.234', {})
     yield 'a block', wrong_block(always(b'', reported=b'8 49152'), [], True)
@@ -97,7 +98,7 @@ def wrong_ends():
             yield f'the sums of one more {words.decode()}', wrong_sums(lines)
     for old, new in [(b'irps 64\n', b'irps 65\n'), (b'home', b'at home'), (b'listed 0', b'listed 1'),
                      (b'removals 128', b'removals 127'), (b'1.234', b'0.000'), (b'1.234', b'unknown'),
-                     (b'1.234', b'120000.000'), (TEXT, b''), (b'inserts 64\n', b'')]:
+                     (b'1.234', b'%d.000' % (SECONDS * 1000)), (TEXT, b''), (b'inserts 64\n', b'')]:
         changed = TEXT.replace(old, new, 1)
         yield f'totals with {new.decode()} for {old.decode()}', wrong_totals(always(changed), 1, [], 128)
     yield 'totals of busy workers that there are not', wrong_totals(always(BUSY), 1, [], 128)
@@ -109,7 +110,7 @@ def wrong_ends():
     yield 'totals of one run more', wrong_totals(always(TEXT * 2), 1, [], 128)
     for kind in KINDS:
         yield f'races without {kind}', wrong_races(always(without(kind) * 5), 5, 1, [])
-    yield 'races in too few runs', wrong_races(always(TEXT * 2 + without('cleanup') * 3), 5, 3, [])
+    yield 'races in too few runs', wrong_races(always(TEXT * 2 + without('cleanup') * 3), 5, 21, [])
     for reported in (b'', b'ssssss', b'sssssse', b'ssssssss'):
         yield f'a start of {reported}', wrong_start(always(ONE_RUN, reported=reported))
     for errors, status in [(b'why', 0), (b'', 1)]:

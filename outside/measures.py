@@ -1,4 +1,5 @@
 """What is measured in a program's output: blocks of memory, a picture's shades, the totals of runs."""
+import collections
 import itertools
 import re
 
@@ -117,12 +118,16 @@ def test_totals(program, results):
 
 
 def wrong_races(program, runs, least, options):
-    """So many runs at least have a completion of each kind."""
-    got, _ = program.run(['run', '--totals', f'--repeat={runs}', *options])
-    for kind in KINDS:
-        found = len(re.findall(rf'^completed by {kind} [1-9]'.encode(), got.output, re.MULTILINE))
-        if found < least:
-            yield f'{found} of {runs} runs have a completion by {kind}; {got}'
+    """So many runs at least have a completion of each kind. A machine that does something else beside them lets fewer
+    threads meet, so up to ten times the runs are made until there are so many."""
+    found = collections.Counter()
+    for _ in range(10):
+        got, _ = program.run(['run', '--totals', f'--repeat={runs}', *options])
+        found.update(it.decode() for it in re.findall(rb'^completed by (.+) [1-9]\d*$', got.output, re.MULTILINE))
+        lacking = [kind for kind in KINDS if found[kind] < least]
+        if not lacking:
+            return
+    yield from (f'{found[kind]} of {runs * 10} runs have a completion by {kind}; {got}' for kind in lacking)
 
 
 def test_races(program, results):

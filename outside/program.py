@@ -8,7 +8,7 @@ HERE = pathlib.Path(__file__).resolve().parent
 TOP = HERE.parent
 
 # A program that runs for longer fails its test.
-SECONDS = 120
+SECONDS = 600
 
 # What a test says of bytes at most.
 SHOWN = 160
