@@ -39,7 +39,7 @@ csq_compile() {
     objects+=("${archive%.a}.$(basename "$source" .c).o")
     "$@" -std=c11 -I"$top/include" -c "$top/$source" -o "${objects[-1]}" || return 1
   done
-  ar rcs "$archive" "${objects[@]}"
+  "${AR:-ar}" rcs "$archive" "${objects[@]}"
 }
 
 csq_queue_files=(bench/c/plain_{queue,judges,list,ledger,replay}.c)
@@ -67,10 +67,29 @@ csq_library() {
   csq_receipt "$(rt version)" "$(grep '^logic=' <<<"$said" | tail -1)" "$@" && printf '%s\n' "$@"
 }
 
-# Compiles csq_requests.h's code for the proved library, and prints the archive: csq_requests_library TOP
+# Sets CC, LD, AR, OBJCOPY and WINDRES to the tools for a target, unless they name others: csq_tools TARGET, which is
+# linux-x86-64, linux-aarch64 or windows-x86-64. The system's own tools are for linux-x86-64.
+csq_tools() {
+  local prefix=''
+  case $1 in
+    linux-x86-64) ;;
+    linux-aarch64) prefix=aarch64-linux-gnu- ;;
+    windows-x86-64) prefix=x86_64-w64-mingw32- ;;
+    *) return 1 ;;
+  esac
+  if [[ $prefix ]]; then : "${CC:=${prefix}gcc}"; fi
+  : "${CC:=cc}" "${LD:=${prefix}ld}" "${AR:=${prefix}ar}" "${OBJCOPY:=${prefix}objcopy}" "${WINDRES:=${prefix}windres}"
+}
+
+# The folder in which the proved library for a target is built: csq_out TOP TARGET
+csq_out() { if [[ $2 == linux-x86-64 ]]; then echo "$1/crates/csq_c/out"; else echo "$1/crates/csq_c/out/$2"; fi; }
+
+# Compiles csq_requests.h's code for the proved library, and prints the archive: csq_requests_library TOP [TARGET]
 csq_requests_library() {
-  local archive=$1/crates/csq_c/out/libcsq_requests.a
-  csq_compile "$1" "$archive" "${csq_layer_files[@]}" -- "${CC:-cc}" -O2 -fPIC && echo "$archive"
+  local target=${2-linux-x86-64} archive CC=${CC-} AR=${AR-}
+  archive=$(csq_out "$1" "$target")/libcsq_requests.a
+  csq_tools "$target"
+  csq_compile "$1" "$archive" "${csq_layer_files[@]}" -- "$CC" -O2 -fPIC && echo "$archive"
 }
 
 # Compiles the plain C code of csq.h, csq_ledger.h and csq_replay.h alone into an archive: csq_plain_queue TOP ARCHIVE COMPILER FLAG..

@@ -1,5 +1,7 @@
 # Makes the tree of an installation, for c/install and c/dist: source this after c/library.bash, with the shell's
-# options -euo pipefail. CC, LD, AR and OBJCOPY name the tools, LIBDIR the libraries' folder below the prefix.
+# options -euo pipefail. CC, LD, AR and OBJCOPY name the tools, LIBDIR the libraries' folder below the prefix, and `target` the
+# target, as csq_tools takes it.
+# shellcheck disable=SC2154 # the scripts set target
 : "${CC:=cc}" "${LD:=ld}" "${AR:=ar}" "${OBJCOPY:=objcopy}" "${LIBDIR:=lib}"
 csq_files=share/keuvatsi/files # the list of what is installed below a prefix, which is one of them
 
@@ -37,6 +39,19 @@ csq_archives() {
   fi
 }
 
+# Prints the proved archives for a target that docs/proved-library --all has built, one a line: csq_built TOP TARGET
+csq_built() {
+  local out
+  out=$(csq_out "$1" "$2")
+  if [[ ! -f $out/libcsq_requests.a.receipt || $(csq_newer "$1" "$out/libcsq_requests.a.receipt") ]]; then
+    csq_refuse "no archive" "no proved library for $2 was built since its sources changed: docs/proved-library --all, after rt ci"
+  fi
+  printf '%s\n' "$out"/libcsq_{requests,c}.a
+}
+
+# Prints a source of what is proved that is newer than a file, if there is one: csq_newer TOP FILE
+csq_newer() { find "$1/crates" -newer "$2" \( -name '*.rt' -o -name '*.antt' \) -print -quit; }
+
 # Prints the line of the kit that proved these archives, or nothing if they aren't known to be proved: only a receipt beside
 # the first of them says so, in which the checksums are those of all, and of no other.
 csq_kit() {
@@ -61,7 +76,7 @@ csq_program() {
     echo "$CSQSIM"
   elif [[ ! -x $program ]]; then
     echo "c/${0##*/}: without csqsim, which isn't built: (cd crates/csqsim && rt run)" >&2
-  elif [[ $(find "$top/crates" -newer "$program" \( -name '*.rt' -o -name '*.antt' \) -print -quit) ]]; then
+  elif [[ $(csq_newer "$top" "$program") ]]; then
     echo "c/${0##*/}: without csqsim, which is older than its sources: (cd crates/csqsim && rt run)" >&2
   else
     echo "$program"
@@ -86,11 +101,10 @@ csq_fill() {
 }
 
 # Links the archives, and the calls that are written in csq.h, into one object, in which only csq_* is a name for others,
-# and that into libcsq.a and the shared library: csq_link TOP WORK VERSION BUILD ARCHIVE.., where BUILD is csq_build's text,
-# and WORK/map has the versions of symbols.
-csq_link() {
-  local top=$1 work=$2 version=$3 build=$4 major=${3%%.*} lib=$2/tree/$LIBDIR
-  shift 4
+# and packs that as libcsq.a: csq_join TOP WORK BUILD ARCHIVE.., where BUILD is csq_build's text.
+csq_join() {
+  local top=$1 work=$2 build=$3 lib=$2/tree/$LIBDIR
+  shift 3
   "$CC" -std=c99 -O2 -fPIC -I"$top/include" -DCSQ_BUILD="\"$build\"" -c "$top/c/package/csq_calls.c" -o "$work/calls.o" ||
     csq_refuse "not compiled" "$CC can't compile c/package/csq_calls.c. CC names another compiler"
   "$LD" -r --whole-archive "$@" --no-whole-archive "$work/calls.o" -o "$work/csq.o" ||
@@ -98,6 +112,11 @@ csq_link() {
   "$OBJCOPY" --wildcard --keep-global-symbol='csq_*' "$work/csq.o"
   mkdir -p "$lib"
   "$AR" rcsD "$lib/libcsq.a" "$work/csq.o"
+}
+
+# Links that object into the shared library: csq_share WORK VERSION, where WORK/map has the versions of symbols.
+csq_share() {
+  local work=$1 version=$2 major=${2%%.*} lib=$1/tree/$LIBDIR
   # Calls inside of the library are bound there (-Bsymbolic): what was proved isn't exchanged for a program's own.
   "$CC" -shared -Wl,-soname,"libcsq.so.$major" -Xlinker --version-script="$work/map" -Wl,-Bsymbolic -Wl,-z,defs \
     -Wl,-z,relro,-z,now -Wl,--require-defined=csq_new_queue "$work/csq.o" -pthread -o "$lib/libcsq.so.$version" ||
@@ -106,21 +125,38 @@ csq_link() {
   ln -s "libcsq.so.$major" "$lib/libcsq.so"
 }
 
+# The same for Windows: csq.dll, which says what it is in its properties too, and its import library:
+# csq_share_dll TOP WORK VERSION BUILD
+csq_share_dll() {
+  local top=$1 work=$2 version=$3 build=$4 tree=$2/tree
+  "$top/c/package/made" "$work" csq.def
+  csq_fill "$top/c/package/csq.rc.in" "VERSION=$version" "NUMBERS=${version//./,},0" "BUILD=$build" >"$work/csq.rc"
+  mkdir -p "$tree/bin"
+  # The linker would take the time, and a base from the file's whole name: the same archives give the same bytes.
+  if ! "$WINDRES" "$work/csq.rc" -o "$work/rc.o" ||
+    ! "$CC" -shared -static-libgcc -s -Wl,--no-insert-timestamp -Wl,--image-base,0x180000000 \
+      -Wl,--out-implib,"$tree/$LIBDIR/libcsq.dll.a" "$work"/{csq.o,rc.o,csq.def} -o "$tree/bin/csq.dll"; then
+    csq_refuse "not linked" "$CC and $WINDRES can't make csq.dll of the archives. Name all of a library for Windows"
+  fi
+}
+
 # Adds what tests of drivers are built from: the headers, and the checker as sources, since it is compiled with the
-# sanitizers of the driver that it tests: csq_add_iocsq TOP TREE
+# sanitizers of the driver that it tests: csq_add_iocsq TOP TREE SYSTEM, which is CMake's name for the library's.
 csq_add_iocsq() {
   local top=$1 tree=$2 share=$2/share/keuvatsi/iocsq
-  install -d "$tree/include/keuvatsi"/{iocsq,wdk} "$share"/{skeleton,tests,scenarios}
+  install -d "$tree/include/keuvatsi"/{iocsq,wdk} "$share"/{skeleton,tests,scenarios,defaults,plain}
   install -m 644 "$top"/include/iocsq*.h "$tree/include/keuvatsi"
   install -m 644 "$top"/include/iocsq/*.h "$tree/include/keuvatsi/iocsq"
   install -m 644 "$top"/include/wdk/*.h "$tree/include/keuvatsi/wdk"
-  install -m 644 "$top"/iocsq/*.[ch] "$share"
+  install -m 644 "$top"/iocsq/*.{c,h,cmake} "$share"
+  install -m 644 "$top"/iocsq/defaults/*.c "$share/defaults"
+  install -m 644 "$top"/bench/c/plain_*.[ch] "$share/plain"
   install -m 644 "$top"/iocsq/skeleton/* "$share/skeleton"
   install -m 644 "$top"/iocsq/tests/{storm.c,patient.c,bounded.c,program.h,levels.h} "$share/tests"
   install -m 644 "$top"/iocsq/scenarios/* "$share/scenarios"
-  install -m 755 "$top"/iocsq/{new,check,shortest,judge,draw} "$share"
-  printf '%s\n' "# Paths from this folder, for new" "include=../../../include/keuvatsi" \
-    "library=../../../$LIBDIR/libcsq.a" >"$share/installed"
+  install -m 755 "$top"/iocsq/{new,check,shortest,judge,draw,new.ps1,check.ps1} "$share"
+  printf '%s\n' "# Paths from this folder, for new, and the system of the library" "include=../../../include/keuvatsi" \
+    "library=../../../$LIBDIR/libcsq.a" "system=$3" >"$share/installed"
 }
 
 # Makes the versions of symbols, WORK/map, and adds the man pages, and csqsim with its completions if there is one:
@@ -140,6 +176,22 @@ csq_add_made() {
   done
 }
 
+# Installs the headers of the library: csq_add_headers TOP TREE
+csq_add_headers() { install -D -m 644 -t "$2/include/keuvatsi" "$1"/include/csq{,_ledger,_replay,_requests}.h; }
+
+# Makes the tree WORK/tree for Windows: csq_package_windows TOP WORK KIT ARCHIVE.. What KIT has proved is the code for Linux.
+csq_package_windows() {
+  local top=$1 work=$2 kit=$3 version build
+  shift 3
+  version=$(csq_version "$top")
+  build="csq $version proved=no"
+  if [[ $kit ]]; then build="csq $version proved=for-linux kit=$kit"; fi
+  csq_join "$top" "$work" "$build" "$@"
+  csq_share_dll "$top" "$work" "$version" "$build"
+  csq_add_headers "$top" "$work/tree"
+  csq_add_iocsq "$top" "$work/tree" Windows
+}
+
 # Makes the tree WORK/tree: csq_package TOP WORK PREFIX KIT ARCHIVE.., where PREFIX is what csq.pc is to name, and KIT the
 # line of the kit that proved the archives, or empty. pkg-config reads a space in its variables behind a backslash.
 csq_package() {
@@ -148,14 +200,15 @@ csq_package() {
   version=$(csq_version "$top")
   if [[ $kit ]]; then
     proved=yes
-    program=$(csq_program "$top")
+    if [[ $target == linux-x86-64 ]]; then program=$(csq_program "$top"); fi
   fi
   csq_add_made "$top" "$work" "$program"
-  csq_link "$top" "$work" "$version" "csq $version proved=$proved${kit:+ kit=$kit}" "$@"
+  csq_join "$top" "$work" "csq $version proved=$proved${kit:+ kit=$kit}" "$@"
+  csq_share "$work" "$version"
   local values=("VERSION=$version" "MAJOR=${version%%.*}" "LIBDIR=$LIBDIR" "PREFIX=${prefix// /\\ }"
     "TO_PREFIX=$(realpath -ms --relative-to="/$LIBDIR/cmake/csq" /)" "PROVED=$proved" "KIT=$kit")
-  install -D -m 644 -t "$tree/include/keuvatsi" "$top"/include/csq{,_ledger,_replay,_requests}.h
-  csq_add_iocsq "$top" "$tree"
+  csq_add_headers "$top" "$tree"
+  csq_add_iocsq "$top" "$tree" Linux
   mkdir -p "$lib/pkgconfig" "$lib/cmake/csq"
   csq_fill "$top/c/package/csq.pc.in" "${values[@]}" >"$lib/pkgconfig/csq.pc"
   for file in csqConfig.cmake csqConfigVersion.cmake; do

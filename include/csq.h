@@ -2,7 +2,8 @@
  * csq.h: the cancel-safe IRP queue of Microsoft's WDK (IoCsqInsertIrpEx, IoCsqRemoveNextIrp,
  * IoCsqRemoveIrp, IoSetCancelRoutine, IoCancelIrp, IRP_MJ_CLEANUP) for programs in C and C++ that
  * bring a lock of their own. The library runs on 64-bit Linux (ELF), on a processor of x86-64-v2
- * (SSE4.1) or later. This header is C99, and C++98 with its <stdint.h>; C89 isn't supported.
+ * (SSE4.1) or ARMv8-A or later, and on 64-bit Windows on one of x86-64-v2. This header is C99, and
+ * C++98 with its <stdint.h>; C89 isn't supported.
  *
  *     the WDK                                  here
  *     IoCsqInitializeEx                        csq_new, csq_take_pass

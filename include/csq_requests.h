@@ -1,5 +1,6 @@
 /*
- * csq_requests.h: a cancel-safe queue of requests for servers, over csq_ledger.h and POSIX threads.
+ * csq_requests.h: a cancel-safe queue of requests for servers, over csq_ledger.h and the threads of
+ * POSIX or Windows.
  * A submit puts a value in, a pointer, for a file object (a connection); it comes out once: to the
  * worker that takes the request, to the caller that cancels it, to the drain of its file object, or
  * to the call of csq_requests_tick that finds its time over. The numbers of IRPs, their lives, the
@@ -332,7 +333,7 @@ CSQ_NODISCARD uint32_t csq_requests_cleanup_start(struct csq_requests *requests,
  * CSQ_NONE, so another edge comes only after that. (A submit of another thread may make it readable
  * for nothing then, until the next CSQ_NONE.) It is the queue's, which makes it at the first call,
  * closed by an exec and non-blocking, and closes it when it is freed; nobody reads or writes it.
- * CSQ_UNKNOWN_FILE; CSQ_NO_MEMORY (the kernel has none). */
+ * CSQ_UNKNOWN_FILE; CSQ_NO_MEMORY (the kernel has none; Windows has no eventfds at all). */
 CSQ_NODISCARD uint32_t csq_requests_fd(struct csq_requests *requests, uint32_t file, int *fd);
 
 /* Stores the number of an eventfd that isn't readable from a submit that returned CSQ_FILE_FULL for

@@ -2,7 +2,7 @@
 //! with colons between them (a relative path is of the folder from which the build was started; a
 //! colon that doesn't follow `.a` is part of a path); otherwise the library that `pkg-config`
 //! finds; otherwise, with the feature `plain`, the plain C queue, which the C compiler builds from
-//! the repository (`bench/c`).
+//! the repository (`bench/c`): `CC`, or for another machine `CC_<target>` or GNU's for it.
 use std::env;
 use std::ffi::OsStr;
 use std::path::{Path, PathBuf};
@@ -104,11 +104,42 @@ fn program(variable: &str, name: &str) -> Command {
     Command::new(env::var_os(variable).unwrap_or_else(|| name.into()))
 }
 
+/// Whether it is built for another machine than this one.
+fn crosses() -> bool {
+    env::var_os("HOST") != env::var_os("TARGET")
+}
+
+/// GNU's name for a target, as its tools have it: without the vendor, and mingw-w64's for Windows.
+fn gnu_name(target: &str) -> String {
+    match target.strip_suffix("-pc-windows-gnu") {
+        Some(machine) => format!("{machine}-w64-mingw32"),
+        None => target.replace("-unknown-", "-"),
+    }
+}
+
+/// A tool for the target: the one that `CC_<target>` names, if the variable is `CC`; otherwise, for
+/// this machine, the one that `CC` names, or this one, and for another one GNU's, as
+/// `aarch64-linux-gnu-gcc`.
+fn tool(variable: &str, own: &str, gnu: &str) -> Command {
+    let target = env::var("TARGET").unwrap_or_default();
+    for name in [target.replace('-', "_"), target.clone()] {
+        let of_target = format!("{variable}_{name}");
+        println!("cargo:rerun-if-env-changed={of_target}");
+        if let Some(named) = env::var_os(of_target) {
+            return Command::new(named);
+        }
+    }
+    if crosses() {
+        return Command::new(format!("{}-{gnu}", gnu_name(&target)));
+    }
+    program(variable, own)
+}
+
 /// Names the installed library to Cargo, if pkg-config finds it on this machine, for which it is
 /// built too.
 fn link_installed() -> bool {
     println!("cargo:rerun-if-env-changed=PKG_CONFIG_PATH");
-    if env::var_os("HOST") != env::var_os("TARGET") {
+    if crosses() {
         return false;
     }
     let mut pkg_config = program("PKG_CONFIG", "pkg-config");
@@ -154,12 +185,12 @@ fn link_plain() -> Result<(), String> {
     for name in ["plain_queue", "plain_judges", "plain_list", "plain_ledger"] {
         let object = out.join(name).with_extension("o");
         let source = sources.join(name).with_extension("c");
-        let mut compiler = program("CC", "cc");
+        let mut compiler = tool("CC", "cc", "gcc");
         compiler.args(["-std=c11", "-O2", "-fPIC", "-c", "-I"]);
         run(compiler.arg(&headers).arg(source).arg("-o").arg(&object))?;
         objects.push(object);
     }
-    run(program("AR", "ar").arg("rcs").arg(archive).args(objects))?;
+    run(tool("AR", "ar", "ar").arg("rcs").arg(archive).args(objects))?;
     println!("cargo:rustc-link-search=native={}", out.display());
     println!("cargo:rustc-link-lib=static=csq_plain");
     Ok(())

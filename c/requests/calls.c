@@ -20,7 +20,7 @@ static inline uint32_t list(struct csq_requests *it, void *value, uint32_t file,
         it->stats.most_under_way = (uint32_t)under_way;
     }
     if (due < it->wakes) {
-        pthread_cond_signal(&it->tick);
+        system_wake(&it->tick);
     }
     requests_was_listed(it, file);
     return CSQ_OK;
@@ -53,7 +53,7 @@ static uint32_t list_later(struct csq_requests *it, const struct csq_submit *sub
         /* One that was woken and makes no use of it passes it on. (If it is refused for want of the
          * same room, the others would be.) */
         if (code != CSQ_OK && room != waited && waited->wanting > 0) {
-            pthread_cond_signal(&waited->room);
+            system_wake(&waited->room);
         }
     }
     if (room) {

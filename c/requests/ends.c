@@ -1,8 +1,6 @@
 /* csq_requests.h: the ends of requests without a worker: cancels, deadlines, drains. */
 #include "requests.h"
 
-#include <signal.h>
-
 /* ---- The events ---- */
 
 /* What runs after the completion keeps the file object, and all, from being quiet. */
@@ -96,8 +94,7 @@ uint32_t csq_requests_tick(struct csq_requests *it, uint64_t now) {
 }
 
 uint64_t csq_requests_now(void) {
-    struct timespec now = { 0, 0 };
-    clock_gettime(CLOCK_MONOTONIC, &now);
+    const struct timespec now = system_now();
     return (uint64_t)now.tv_sec * 1000 + (uint64_t)now.tv_nsec / 1000000;
 }
 
@@ -108,11 +105,11 @@ static void sleep_until(struct csq_requests *it, uint64_t time) {
     end.tv_sec = (time_t)(time / 1000 < latest ? time / 1000 : latest);
     end.tv_nsec = (long)(time % 1000) * 1000000;
     it->wakes = time;
-    requests_sleep(it, &it->tick, time == CSQ_NEVER ? NULL : &end);
+    system_sleep(&it->tick, &it->mutex, time == CSQ_NEVER ? NULL : &end);
     it->wakes = 0;
 }
 
-static void *run_clock(void *of) {
+static SYSTEM_RUN run_clock(void *of) {
     struct csq_requests *it = of;
     requests_lock(it);
     while (it->clock == REQUESTS_CLOCK_RUNS) {
@@ -125,19 +122,7 @@ static void *run_clock(void *of) {
         }
     }
     requests_unlock(it);
-    return NULL;
-}
-
-/* Starts the clock's thread, which takes no signals: they are for the threads of the program. */
-static int start_thread(struct csq_requests *it) {
-    sigset_t all, before;
-    sigfillset(&all);
-    int failure = pthread_sigmask(SIG_SETMASK, &all, &before);
-    if (failure == 0) {
-        failure = pthread_create(&it->thread, NULL, run_clock, it);
-        (void)pthread_sigmask(SIG_SETMASK, &before, NULL);
-    }
-    return failure;
+    return 0;
 }
 
 uint32_t csq_requests_start_clock(struct csq_requests *it) {
@@ -146,7 +131,7 @@ uint32_t csq_requests_start_clock(struct csq_requests *it) {
     if (it->clock == REQUESTS_NO_CLOCK) {
         it->clock = REQUESTS_CLOCK_RUNS;
         code = CSQ_OK;
-        if (start_thread(it) != 0) {
+        if (!system_start(&it->thread, run_clock, it)) {
             it->clock = REQUESTS_NO_CLOCK;
             code = CSQ_NO_MEMORY;
         }
@@ -160,11 +145,11 @@ void requests_end_clock(struct csq_requests *it) {
     runs = it->clock == REQUESTS_CLOCK_RUNS;
     it->clock = REQUESTS_CLOCK_ENDS;
     if (runs) {
-        pthread_cond_signal(&it->tick);
+        system_wake(&it->tick);
     }
     requests_unlock(it);
     if (runs) {
-        pthread_join(it->thread, NULL);
+        system_join(it->thread);
     }
 }
 

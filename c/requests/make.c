@@ -2,14 +2,12 @@
 #include "requests.h"
 
 #include <stdlib.h>
-#include <sys/eventfd.h>
-#include <unistd.h>
 
 static void close_fds(struct requests_file *of) {
     uint32_t which;
     for (which = 0; which < REQUESTS_FDS; which++) {
         if (of->fds[which].above) {
-            close(of->fds[which].above - 1);
+            system_close_fd(of->fds[which].above - 1);
         }
     }
 }
@@ -20,34 +18,16 @@ static void unmake(struct csq_requests *it, uint32_t files) {
     (void)code; /* nothing is under way */
     while (files > 0) {
         struct requests_file *of = &it->of[--files];
-        pthread_cond_destroy(&of->listed);
-        pthread_cond_destroy(&of->room);
+        system_unmake_signal(&of->listed);
+        system_unmake_signal(&of->room);
         close_fds(of);
     }
-    pthread_cond_destroy(&it->drains);
-    pthread_cond_destroy(&it->tick);
-    pthread_mutex_destroy(&it->mutex);
+    system_unmake_signal(&it->drains);
+    system_unmake_signal(&it->tick);
+    system_unmake_mutex(&it->mutex);
     free(it->values);
     free(it->of);
     free(it);
-}
-
-/* Makes two signals, which tell the time by a clock that nobody sets, or none. */
-static int make_signals(pthread_cond_t *one, pthread_cond_t *other) {
-    pthread_condattr_t monotonic;
-    int made = 0;
-    if (pthread_condattr_init(&monotonic) != 0) {
-        return 0;
-    }
-    pthread_condattr_setclock(&monotonic, CLOCK_MONOTONIC);
-    if (pthread_cond_init(one, &monotonic) == 0) {
-        made = pthread_cond_init(other, &monotonic) == 0;
-        if (!made) {
-            pthread_cond_destroy(one);
-        }
-    }
-    pthread_condattr_destroy(&monotonic);
-    return made;
 }
 
 /* A queue of nothing, with its mutex and its own signals, or NULL. */
@@ -56,11 +36,11 @@ static struct csq_requests *make_empty(void) {
     if (!it) {
         return NULL;
     }
-    if (pthread_mutex_init(&it->mutex, NULL) == 0) {
-        if (make_signals(&it->drains, &it->tick)) {
+    if (system_make_mutex(&it->mutex)) {
+        if (system_make_signals(&it->drains, &it->tick)) {
             return it;
         }
-        pthread_mutex_destroy(&it->mutex);
+        system_unmake_mutex(&it->mutex);
     }
     free(it);
     return NULL;
@@ -80,7 +60,7 @@ static uint32_t fill(struct csq_requests *it, const struct csq_size *size,
     it->values = (void **)calloc(size->irps, sizeof *it->values);
     it->of = (struct requests_file *)calloc((size_t)size->files + 1, sizeof *it->of);
     while (it->values && it->of && *files <= size->files &&
-           make_signals(&it->of[*files].listed, &it->of[*files].room)) {
+           system_make_signals(&it->of[*files].listed, &it->of[*files].room)) {
         ++*files;
     }
     return *files > size->files ? (uint32_t)CSQ_OK : (uint32_t)CSQ_NO_MEMORY;
@@ -116,8 +96,8 @@ void csq_requests_close(struct csq_requests *it) {
     it->closed = 1;
     for (file = 0; file <= it->files; file++) {
         struct requests_file *of = &it->of[file];
-        pthread_cond_broadcast(&of->listed);
-        pthread_cond_broadcast(&of->room);
+        system_wake_all(&of->listed);
+        system_wake_all(&of->room);
         requests_raise(it, &of->fds[REQUESTS_LISTED]);
         requests_raise(it, &of->fds[REQUESTS_ROOM]);
     }
@@ -155,7 +135,7 @@ static uint32_t fd_of(struct csq_requests *it, uint32_t file, uint32_t which, in
     fd = &requests_file(it, file)->fds[which];
     if (!fd->above) {
         csq_ledger_len(&it->ledger, file, &listed, &under_way);
-        fd->above = eventfd(0, EFD_CLOEXEC | EFD_NONBLOCK) + 1;
+        fd->above = system_make_fd() + 1;
         it->watchers += fd->above != 0;
         if (which == REQUESTS_ROOM || listed > 0 || it->closed) {
             requests_raise(it, fd);

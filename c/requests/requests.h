@@ -2,13 +2,9 @@
 #ifndef REQUESTS_H
 #define REQUESTS_H
 
-#ifndef _POSIX_C_SOURCE
-#define _POSIX_C_SOURCE 200809L
-#endif
-#include "csq_requests.h"
+#include "system.h"
 
-#include <pthread.h>
-#include <time.h>
+#include "csq_requests.h"
 
 /* The eventfds of a file object: for what is listed, and for room. */
 enum { REQUESTS_LISTED, REQUESTS_ROOM, REQUESTS_FDS };
@@ -23,8 +19,8 @@ struct requests_fd {
 
 /* What is known of a file object, or of all of them, beside the ledger. */
 struct requests_file {
-    pthread_cond_t listed; /* signalled when a request is listed that its workers wait for */
-    pthread_cond_t room;   /* signalled when a submit that waits may find room */
+    system_signal listed; /* signalled when a request is listed that its workers wait for */
+    system_signal room;   /* signalled when a submit that waits may find room */
     uint32_t waiting;      /* how many sleep for `listed` */
     uint32_t wanting;      /* how many sleep for `room` */
     uint32_t draining;     /* how many drains sleep */
@@ -45,9 +41,9 @@ struct requests_later {
 enum requests_clock { REQUESTS_NO_CLOCK, REQUESTS_CLOCK_RUNS, REQUESTS_CLOCK_ENDS };
 
 struct csq_requests {
-    pthread_mutex_t mutex;
-    pthread_cond_t drains; /* signalled when a request that a drain waits for ends or is listed */
-    pthread_cond_t tick;   /* signalled when the clock has to look before it wakes */
+    system_mutex mutex;
+    system_signal drains; /* signalled when a request that a drain waits for ends or is listed */
+    system_signal tick;   /* signalled when the clock has to look before it wakes */
     struct csq_ledger ledger;
     struct csq_requests_events events;
     uint32_t irps;
@@ -61,7 +57,7 @@ struct csq_requests {
     uint64_t now;   /* the latest time of a tick */
     uint64_t wakes; /* when the clock's thread wakes; 0 while it is awake */
     uint32_t clock; /* of enum requests_clock */
-    pthread_t thread;
+    system_thread thread;
     uint64_t ended; /* how many requests have */
     struct csq_requests_stats stats;
 };
@@ -85,7 +81,7 @@ static inline int requests_knows(const struct csq_requests *it, uint32_t file) {
 /* Takes the mutex. A thread that finds it taken pauses and looks again before it sleeps. */
 void requests_lock_later(struct csq_requests *it);
 static inline void requests_lock(struct csq_requests *it) {
-    if (pthread_mutex_trylock(&it->mutex) != 0) {
+    if (!system_try_lock(&it->mutex)) {
         requests_lock_later(it);
     }
 }
@@ -96,7 +92,7 @@ static inline void requests_unlock(struct csq_requests *it) {
     if (it->later.is_any) {
         requests_unlock_and_do(it);
     } else {
-        pthread_mutex_unlock(&it->mutex);
+        system_unlock(&it->mutex);
     }
 }
 
@@ -113,10 +109,7 @@ struct requests_limit requests_limit_of(uint32_t milliseconds);
 /* Lets others run, or sleeps, until the signal or until the limit's end; one of these that is
  * counted in *sleepers meanwhile. Returns 1 if it slept. */
 uint32_t requests_pause(struct csq_requests *it, struct requests_limit *limit,
-                        pthread_cond_t *signal, uint32_t *sleepers);
-
-/* Sleeps until the signal, or until this time unless it is NULL. Returns whether that is over. */
-int requests_sleep(struct csq_requests *it, pthread_cond_t *signal, const struct timespec *end);
+                        system_signal *signal, uint32_t *sleepers);
 
 /* Makes an eventfd readable once the mutex is free, and unreadable. */
 void requests_raise(struct csq_requests *it, struct requests_fd *fd);

@@ -1,10 +1,6 @@
 /* csq_requests.h: who waits, who is woken, and who is told once the mutex is free. */
 #include "requests.h"
 
-#include <errno.h>
-#include <sched.h>
-#include <unistd.h>
-
 /* How often a thread lets others run before it sleeps; and the turns of a pause, in which another
  * thread's call of this queue mostly ends: each is twice as long as the one before. */
 enum { YIELDS = 4, FIRST_PAUSE = 32, LAST_PAUSE = 1024 };
@@ -23,11 +19,11 @@ void requests_lock_later(struct csq_requests *it) {
     uint32_t turns;
     for (turns = FIRST_PAUSE; turns <= LAST_PAUSE; turns *= 2) {
         pause_for(turns);
-        if (pthread_mutex_trylock(&it->mutex) == 0) {
+        if (system_try_lock(&it->mutex)) {
             return;
         }
     }
-    pthread_mutex_lock(&it->mutex);
+    system_lock(&it->mutex);
 }
 
 void requests_unlock_and_do(struct csq_requests *it) {
@@ -35,11 +31,9 @@ void requests_unlock_and_do(struct csq_requests *it) {
     struct requests_later later = it->later;
     uint32_t at;
     it->later = nothing;
-    pthread_mutex_unlock(&it->mutex);
+    system_unlock(&it->mutex);
     for (at = 0; at < later.write_count; at++) {
-        const uint64_t one = 1;
-        ssize_t written = write(later.writes[at], &one, sizeof one);
-        (void)written; /* never refused: the number is far from its end */
+        system_raise_fd(later.writes[at]);
     }
     while (later.quiets) {
         struct csq_quiet *quiet = later.quiets;
@@ -53,7 +47,7 @@ struct requests_limit requests_limit_of(uint32_t milliseconds) {
     if (milliseconds == 0 || milliseconds == CSQ_FOREVER) {
         return limit;
     }
-    clock_gettime(CLOCK_MONOTONIC, &limit.end);
+    limit.end = system_now();
     limit.end.tv_sec += (time_t)(milliseconds / 1000);
     limit.end.tv_nsec += (long)(milliseconds % 1000) * 1000000;
     if (limit.end.tv_nsec >= 1000000000) {
@@ -63,28 +57,20 @@ struct requests_limit requests_limit_of(uint32_t milliseconds) {
     return limit;
 }
 
-int requests_sleep(struct csq_requests *it, pthread_cond_t *signal, const struct timespec *end) {
-    if (end) {
-        return pthread_cond_timedwait(signal, &it->mutex, end) == ETIMEDOUT;
-    }
-    pthread_cond_wait(signal, &it->mutex);
-    return 0;
-}
-
 uint32_t requests_pause(struct csq_requests *it, struct requests_limit *limit,
-                        pthread_cond_t *signal, uint32_t *sleepers) {
+                        system_signal *signal, uint32_t *sleepers) {
     /* A sleep frees the mutex as it is, so what is to be done then comes before. */
     if (limit->yields > 0 || it->later.is_any) {
         limit->yields -= limit->yields > 0;
         requests_unlock(it);
-        sched_yield();
+        system_yield();
         requests_lock(it);
         return 0;
     }
     ++*sleepers;
     it->watchers++;
-    limit->over =
-        requests_sleep(it, signal, limit->milliseconds == CSQ_FOREVER ? NULL : &limit->end);
+    limit->over = system_sleep(signal, &it->mutex,
+                               limit->milliseconds == CSQ_FOREVER ? NULL : &limit->end);
     it->watchers--;
     --*sleepers;
     return 1;
@@ -100,9 +86,7 @@ void requests_raise(struct csq_requests *it, struct requests_fd *fd) {
     fd->readable = 1;
     fd->unread++;
     if (later->write_count == REQUESTS_WRITES) {
-        const uint64_t one = 1;
-        ssize_t written = write(fd->above - 1, &one, sizeof one);
-        (void)written;
+        system_raise_fd(fd->above - 1);
     } else {
         later->is_any = 1;
         later->writes[later->write_count++] = fd->above - 1;
@@ -112,7 +96,7 @@ void requests_raise(struct csq_requests *it, struct requests_fd *fd) {
 /* A write that another thread has yet to make is read the next time. */
 void requests_lower(struct requests_fd *fd) {
     uint64_t count = 0;
-    if (fd->unread > 0 && read(fd->above - 1, &count, sizeof count) == (ssize_t)sizeof count) {
+    if (fd->unread > 0 && system_lower_fd(fd->above - 1, &count)) {
         fd->unread -= count;
     }
     fd->readable = 0;
@@ -122,14 +106,14 @@ void requests_lower(struct requests_fd *fd) {
 
 static void wake_drains(struct csq_requests *it, uint32_t file) {
     if (requests_file(it, file)->draining + requests_file(it, CSQ_ANY)->draining > 0) {
-        pthread_cond_broadcast(&it->drains);
+        system_wake_all(&it->drains);
     }
 }
 
 static void wake_worker(struct csq_requests *it, uint32_t file) {
     struct requests_file *of = requests_file(it, file);
     if (of->waiting > 0) {
-        pthread_cond_signal(&of->listed);
+        system_wake(&of->listed);
     }
     requests_raise(it, &of->fds[REQUESTS_LISTED]);
 }
@@ -137,7 +121,7 @@ static void wake_worker(struct csq_requests *it, uint32_t file) {
 static void wake_submit(struct csq_requests *it, uint32_t file) {
     struct requests_file *of = requests_file(it, file);
     if (of->wanting > 0) {
-        pthread_cond_signal(&of->room);
+        system_wake(&of->room);
     }
     requests_raise(it, &of->fds[REQUESTS_ROOM]);
 }
@@ -180,7 +164,7 @@ void requests_refuses(struct csq_requests *it, uint32_t file) {
     uint32_t at;
     for (at = 0; at < 2; at++) {
         struct requests_file *of = requests_file(it, both[at]);
-        pthread_cond_broadcast(&of->room);
+        system_wake_all(&of->room);
         requests_raise(it, &of->fds[REQUESTS_ROOM]);
     }
 }

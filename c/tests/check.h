@@ -23,10 +23,10 @@ static inline void check_that(int holds, const char *what, const char *file, int
     }
 }
 
-static inline void check_number(unsigned long got, unsigned long want, const char *what,
+static inline void check_number(unsigned long long got, unsigned long long want, const char *what,
                                 const char *file, int line) {
     if (got != want && !check_failed) {
-        printf("FAILED %s: %s:%d: %s is %lu, not %lu\n", check_test, file, line, what, got, want);
+        printf("FAILED %s: %s:%d: %s is %llu, not %llu\n", check_test, file, line, what, got, want);
         check_failed = 1;
     }
 }

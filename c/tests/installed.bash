@@ -83,9 +83,9 @@ staged() {
   done
 }
 
-# dist_twice FOLDER ORIGIN ARGUMENT..: the same bytes twice, with their checksums; unpacked, a README with its origin, whose
-# command installs it.
-dist_twice() {
+# dist_same FOLDER ORIGIN ARGUMENT..: c/dist makes the same bytes twice, with their checksums; unpacked, as FOLDER/csq, a
+# README with its origin.
+dist_same() {
   local folder=$1 origin=$2 turn
   shift 2
   for turn in 1 2; do
@@ -93,8 +93,11 @@ dist_twice() {
   done
   cmp "$folder"/[12]/*.tar.gz && (cd "$folder/2" && sha256sum -c ./*.sha256) &&
     tar -xzf "$folder"/1/*.tar.gz -C "$folder" && mv "$folder"/csq-* "$folder/csq" &&
-    grep -F "$origin" "$folder/csq/README" && (cd "$folder/csq" && sha256sum -c SHA256SUMS) && copied "$folder/csq"
+    grep -F "$origin" "$folder/csq/README" && (cd "$folder/csq" && sha256sum -c SHA256SUMS)
 }
+
+# dist_twice FOLDER ORIGIN ARGUMENT..: and the README's command installs it.
+dist_twice() { dist_same "$@" && copied "$1/csq"; }
 
 # copied FOLDER: what was unpacked is installed by its README's command, whole, and c/install removes it again.
 copied() {

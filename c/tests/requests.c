@@ -271,11 +271,11 @@ static void a_drain_ends_what_is_listed(uint32_t list) {
     submit(requests, 5, 1, 0);
     IS(next(requests, 1, &taken), 5);
     submit(requests, 6, 1, 0);
-    IS(csq_requests_drain(requests, 1, SHORT), CSQ_HOLDING);
+    IS(csq_requests_drain(requests, 1, SHORT_TIME), CSQ_HOLDING);
     IS(report.count, 6);
     IS(csq_requests_complete(requests, &taken, 0), CSQ_OK);
     IS(csq_requests_drain(requests, 1, CSQ_FOREVER), CSQ_OK);
-    IS(csq_requests_drain(requests, CSQ_ANY, LONG), CSQ_OK);
+    IS(csq_requests_drain(requests, CSQ_ANY, LONG_TIME), CSQ_OK);
     IS(under_way(requests, CSQ_ANY), 0);
     IS(csq_requests_free(&requests), CSQ_OK);
 }

@@ -10,7 +10,8 @@
 
 #include <string.h>
 
-enum { SHORT = 20, LONG = 60000, FILES = 3 }; /* milliseconds, and the file objects of each queue */
+enum { SHORT_TIME = 20, LONG_TIME = 60000 }; /* in milliseconds */
+enum { FILES = 3 };                           /* the file objects of each queue */
 
 /* What the events were called with: the values, or 100 more after the completion; and the last. */
 struct report {

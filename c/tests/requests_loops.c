@@ -1,11 +1,14 @@
 /* The calls of csq_requests.h for batches, deadlines, loops and those who count, in one thread. */
 #include "requests_check.h"
 
-#include <fcntl.h>
-#include <poll.h>
+#include "eventfds.h"
+
 #include <stddef.h>
+#ifndef _WIN32
+#include <fcntl.h>
 #include <sys/epoll.h>
 #include <unistd.h>
+#endif
 
 static struct csq_submit how(int value, uint32_t file, uint64_t due) {
     struct csq_submit made = { number(value), file, 0, 0, due };
@@ -238,11 +241,7 @@ static void who_is_told_may_start_the_next_drain(uint32_t list) {
 
 /* ---- Eventfds ---- */
 
-static uint32_t is_readable(int fd) {
-    struct pollfd one = { fd, POLLIN, 0 };
-    return (uint32_t)poll(&one, 1, 0);
-}
-
+#ifndef _WIN32
 static void an_eventfd_is_neither_inherited_nor_waited_for(uint32_t list) {
     struct csq_requests *requests = made(2, list, NULL);
     int fd = -1;
@@ -279,6 +278,8 @@ static void an_edge_comes_again_once_none_was_found(uint32_t list) {
     IS((unsigned)close(loop), 0);
     IS(csq_requests_free(&requests), CSQ_OK);
 }
+
+#endif
 
 static uint32_t readable_of(const int *fds, int count) {
     uint32_t readable = 0;
@@ -445,11 +446,15 @@ int main(void) {
     RUN_BOTH(a_drain_that_nobody_waits_for_tells_once);
     RUN_BOTH(nobody_is_told_before_the_last_event_returns);
     RUN_BOTH(who_is_told_may_start_the_next_drain);
+#ifndef _WIN32
     RUN_BOTH(an_eventfd_is_neither_inherited_nor_waited_for);
     RUN_BOTH(an_edge_comes_again_once_none_was_found);
-    RUN_BOTH(a_close_makes_each_eventfd_readable);
-    RUN_BOTH(an_eventfd_is_readable_while_one_is_listed);
-    RUN_BOTH(an_eventfd_is_readable_unless_there_is_no_room);
+#endif
+    if (HAS_EVENTFDS) {
+        RUN_BOTH(a_close_makes_each_eventfd_readable);
+        RUN_BOTH(an_eventfd_is_readable_while_one_is_listed);
+        RUN_BOTH(an_eventfd_is_readable_unless_there_is_no_room);
+    }
     RUN_BOTH(the_statistics_count);
     RUN_BOTH(the_statistics_fill_what_the_caller_has);
     return DONE();

@@ -38,6 +38,7 @@ void *__wrap_realloc(void *block, size_t bytes) {
     return block ? __real_realloc(block, bytes) : counted(__real_realloc(NULL, bytes));
 }
 
+#ifndef _WIN32 /* which has neither */
 void *__wrap_aligned_alloc(size_t alignment, size_t bytes) {
     return refuses() ? NULL : counted(__real_aligned_alloc(alignment, bytes));
 }
@@ -47,6 +48,7 @@ int __wrap_posix_memalign(void **block, size_t alignment, size_t bytes) {
     blocks += code == 0;
     return code;
 }
+#endif
 
 void __wrap_free(void *block) {
     blocks -= block != NULL;

@@ -3,7 +3,7 @@
  * the model's ends the run. */
 #include "requests_model_calls.h"
 
-#include <poll.h>
+#include "eventfds.h"
 
 /* ---- Cancels and deadlines ---- */
 
@@ -172,23 +172,23 @@ static void call_fd(struct model *it) {
     int got = -7;
     code_is(is_room ? csq_requests_room_fd(it->real, file, &got)
                     : csq_requests_fd(it->real, file, &got),
-            is_known ? CSQ_OK : CSQ_UNKNOWN_FILE);
-    if (is_known && !fd->is_there) {
+            !is_known ? CSQ_UNKNOWN_FILE : HAS_EVENTFDS ? CSQ_OK : CSQ_NO_MEMORY);
+    if (is_known && HAS_EVENTFDS && !fd->is_there) {
         fd->is_there = 1;
         fd->number = got;
         fd->readable = is_room || it->closed || count_of(it, file, 1) > 0;
     }
-    number_is("the number of an eventfd", (unsigned)got, is_known ? (unsigned)fd->number : -7u);
+    number_is("the number of an eventfd", (unsigned)got,
+              is_known && HAS_EVENTFDS ? (unsigned)fd->number : -7u);
 }
 
 static void call_poll(struct model *it) {
     struct event_fd *const fds[] = { it->listed_fds, it->room_fds };
     for (uint32_t at = 0; at < 2 * (ALL + 1); at++) {
         const struct event_fd *fd = &fds[at % 2][at / 2];
-        struct pollfd one = { fd->number, POLLIN, 0 };
         if (fd->is_there) {
             number_is(at % 2 ? "whether room is readable" : "whether a listed one is readable",
-                      (unsigned)poll(&one, 1, 0), fd->readable);
+                      is_readable(fd->number), fd->readable);
         }
     }
 }

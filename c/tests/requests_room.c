@@ -2,9 +2,10 @@
 #include "../requests/requests.h"
 #include "requests_check.h"
 
-#include <poll.h>
+#include "eventfds.h"
+
+#include <pthread.h>
 #include <sched.h>
-#include <unistd.h>
 
 /* A submit that waits for room in a thread of its own. */
 struct submitter {
@@ -25,7 +26,8 @@ static void *submit_it(void *of) {
 }
 
 static void start(struct submitter *it, struct csq_requests *requests, int value, uint32_t file) {
-    struct submitter made = { requests, { number(value), file, 0, LONG, 0 }, { 0, 0 }, 0, 0, 0 };
+    const struct csq_submit how = { number(value), file, 0, LONG_TIME, 0 };
+    struct submitter made = { requests, how, { 0, 0 }, 0, 0, 0 };
     memcpy(it, &made, sizeof made);
     IS((unsigned)pthread_create(&it->thread, NULL, submit_it, it), 0);
 }
@@ -34,7 +36,7 @@ static void start(struct submitter *it, struct csq_requests *requests, int value
 static void end_of(struct submitter *it, uint32_t code) {
     IS((unsigned)pthread_join(it->thread, NULL), 0);
     IS(it->code, code);
-    CHECK(it->took < LONG);
+    CHECK(it->took < LONG_TIME);
 }
 
 /* Until this number of submits sleep for room of a file object, or for an IRP; or of workers or
@@ -43,10 +45,10 @@ static void until_it_waits(struct csq_requests *requests, uint32_t file, uint32_
     const struct requests_file *of = requests_file(requests, file);
     const uint64_t began = csq_requests_now();
     uint32_t asleep = 0;
-    while (asleep < count && csq_requests_now() - began < LONG) {
-        pthread_mutex_lock(&requests->mutex);
+    while (asleep < count && csq_requests_now() - began < LONG_TIME) {
+        system_lock(&requests->mutex);
         asleep = of->wanting + of->waiting + of->draining;
-        pthread_mutex_unlock(&requests->mutex);
+        system_unlock(&requests->mutex);
         sched_yield();
     }
     CHECK(asleep >= count);
@@ -64,12 +66,12 @@ static struct csq_requests *narrow(uint32_t list, uint32_t first_life) {
 
 static void a_submit_waits_for_its_time(uint32_t list) {
     struct csq_requests *requests = narrow(list, 0);
-    struct csq_submit how = { number(2), 0, 0, SHORT, 0 };
+    struct csq_submit how = { number(2), 0, 0, SHORT_TIME, 0 };
     struct csq_irp name = submit(requests, 1, 0, 0);
     struct csq_requests_stats stats = { sizeof stats, 0, 0, 0, 0, 0, { 0 }, 0, 0, 0, 0 };
     const uint64_t began = csq_requests_now();
     IS(csq_requests_submit_with(requests, &how, &name), CSQ_FILE_FULL);
-    CHECK(csq_requests_now() - began >= SHORT - 1);
+    CHECK(csq_requests_now() - began >= SHORT_TIME - 1);
     IS(csq_requests_read_stats(requests, &stats), CSQ_OK);
     CHECK(stats.waits_for_room >= 1 && stats.waits_for_room <= 4);
     IS(stats.file_full, 1);
@@ -250,7 +252,7 @@ static void who_has_to_wait_elsewhere_wakes_the_next(uint32_t list) {
 /* Two wait for the same room: one that is woken and finds none sleeps again. Otherwise they would
  * wake each other for ever. */
 static void who_is_woken_for_nothing_wakes_nobody(uint32_t list) {
-    const struct timespec time = { 0, SHORT * 1000000 };
+    const struct timespec time = { 0, SHORT_TIME * 1000000 };
     struct csq_requests *requests = narrow(list, 0);
     struct csq_requests_stats stats = { sizeof stats, 0, 0, 0, 0, 0, { 0 }, 0, 0, 0, 0 };
     struct submitter submitters[2];
@@ -258,7 +260,7 @@ static void who_is_woken_for_nothing_wakes_nobody(uint32_t list) {
     start(&submitters[0], requests, 2, 0);
     start(&submitters[1], requests, 3, 0);
     until_it_waits(requests, 0, 2);
-    pthread_cond_signal(&requests_file(requests, 0)->room);
+    system_wake(&requests_file(requests, 0)->room);
     nanosleep(&time, NULL);
     IS(csq_requests_read_stats(requests, &stats), CSQ_OK);
     CHECK(stats.waits_for_room <= 4);
@@ -294,7 +296,7 @@ static void a_submit_may_lie_in_its_value(uint32_t list) {
     const struct csq_requests_events events = { NULL, free_job, NULL };
     struct csq_quiet quiet = { is_quiet, NULL, NULL, 0, 0, NULL };
     struct csq_requests *requests = made(2, list, &events);
-    struct submitter submitter = { requests, { calloc(1, sizeof(struct job)), 0, 0, LONG, 0 },
+    struct submitter submitter = { requests, { calloc(1, sizeof(struct job)), 0, 0, LONG_TIME, 0 },
                                    { 0, 0 }, 0, 0, 0 };
     struct csq_request taken[2];
     *(struct csq_submit *)submitter.how.value = submitter.how;
@@ -322,8 +324,8 @@ struct batcher {
 
 static void *submit_two(void *of) {
     struct batcher *it = of;
-    const struct csq_submit submits[] = { { number(2), 0, 0, LONG, 0 },
-                                          { number(3), 0, 0, LONG, 0 } };
+    const struct csq_submit submits[] = { { number(2), 0, 0, LONG_TIME, 0 },
+                                          { number(3), 0, 0, LONG_TIME, 0 } };
     const uint64_t began = csq_requests_now();
     struct csq_irp names[2];
     it->code = csq_requests_submit_many(it->requests, submits, 2, names, &it->count);
@@ -336,7 +338,7 @@ static void *take_two(void *of) {
     const uint64_t began = csq_requests_now();
     struct csq_request batch[2];
     uint32_t completed = 0;
-    it->code = csq_requests_next_many(it->requests, 0, LONG, batch, 2, &it->count);
+    it->code = csq_requests_next_many(it->requests, 0, LONG_TIME, batch, 2, &it->count);
     it->took = csq_requests_now() - began;
     IS(csq_requests_complete_many(it->requests, batch, it->count, 0, &completed), CSQ_OK);
     return NULL;
@@ -353,7 +355,7 @@ static void one_of_two(const struct batcher *it, uint32_t code) {
     IS((unsigned)pthread_join(it->thread, NULL), 0);
     IS(it->code, code);
     IS(it->count, 1);
-    CHECK(it->took < LONG);
+    CHECK(it->took < LONG_TIME);
 }
 
 static void a_batch_waits_for_its_first_alone(uint32_t list) {
@@ -378,7 +380,7 @@ static void a_batch_waits_for_its_first_alone(uint32_t list) {
 
 static void *drain_first(void *of) {
     struct batcher *it = of;
-    it->code = csq_requests_drain(it->requests, 0, LONG);
+    it->code = csq_requests_drain(it->requests, 0, LONG_TIME);
     return NULL;
 }
 
@@ -389,17 +391,17 @@ static void a_drain_that_sleeps_again_tells_before(uint32_t list) {
     struct csq_request taken[2];
     struct csq_irp name = { 0, 0 };
     struct batcher drain;
-    struct pollfd room = { -1, POLLIN, 0 };
+    int room = -1;
     for (int at = 0; at < 2; at++) {
         submit(requests, at, 0, 0);
         IS(next(requests, 0, &taken[at]), (uint32_t)at);
     }
-    IS(csq_requests_room_fd(requests, CSQ_ANY, &room.fd), CSQ_OK);
+    IS(csq_requests_room_fd(requests, CSQ_ANY, &room), CSQ_OK);
     IS(csq_requests_submit(requests, number(3), 1, 0, &name), CSQ_FULL);
     begin(&drain, requests, drain_first);
     until_it_waits(requests, 0, 1);
     IS(csq_requests_put_back(requests, &taken[0], 0), CSQ_OK);
-    IS((unsigned)poll(&room, 1, LONG), 1);
+    IS(becomes_readable(room, LONG_TIME), 1);
     IS(csq_requests_complete(requests, &taken[1], 0), CSQ_OK);
     IS((unsigned)pthread_join(drain.thread, NULL), 0);
     IS(drain.code, CSQ_OK);
@@ -437,10 +439,9 @@ static void a_batch_leaves_the_others_share(uint32_t list) {
 static void a_write_that_comes_late_is_read(uint32_t list) {
     struct csq_requests *requests = made(2, list, NULL);
     struct requests_fd *fd = &requests_file(requests, CSQ_ANY)->fds[REQUESTS_LISTED];
-    struct pollfd one = { -1, POLLIN, 0 };
     struct csq_request taken;
-    const uint64_t count = 1;
-    IS(csq_requests_fd(requests, CSQ_ANY, &one.fd), CSQ_OK);
+    int one = -1;
+    IS(csq_requests_fd(requests, CSQ_ANY, &one), CSQ_OK);
     requests_lock(requests);
     for (int turn = 0; turn < 2; turn++) {
         requests_raise(requests, fd);
@@ -449,10 +450,12 @@ static void a_write_that_comes_late_is_read(uint32_t list) {
     requests->later.write_count = 1;
     requests_unlock(requests);
     for (int turn = 0; turn < 2; turn++) {
-        IS((unsigned)poll(&one, 1, 0), 1);
+        IS(is_readable(one), 1);
         IS(csq_requests_next(requests, CSQ_ANY, 0, &taken), CSQ_NONE);
-        IS((unsigned)poll(&one, 1, 0), 0);
-        CHECK(turn > 0 || write(one.fd, &count, sizeof count) == (ssize_t)sizeof count);
+        IS(is_readable(one), 0);
+        if (turn == 0) {
+            system_raise_fd(one);
+        }
     }
     IS(csq_requests_free(&requests), CSQ_OK);
 }
@@ -461,24 +464,26 @@ static void a_write_that_comes_late_is_read(uint32_t list) {
 static void late_writes_are_read_at_once(uint32_t list) {
     struct csq_requests *requests = made(2, list, NULL);
     struct requests_fd *fd = &requests_file(requests, CSQ_ANY)->fds[REQUESTS_LISTED];
-    struct pollfd one = { -1, POLLIN, 0 };
     struct csq_request taken;
-    IS(csq_requests_fd(requests, CSQ_ANY, &one.fd), CSQ_OK);
+    int one = -1;
+    IS(csq_requests_fd(requests, CSQ_ANY, &one), CSQ_OK);
     requests_lock(requests);
     for (int turn = 0; turn < 2; turn++) {
         requests_raise(requests, fd);
         requests_lower(fd);
     }
     requests_unlock(requests);
-    IS((unsigned)poll(&one, 1, 0), 1);
+    IS(is_readable(one), 1);
     IS(csq_requests_next(requests, CSQ_ANY, 0, &taken), CSQ_NONE);
-    IS((unsigned)poll(&one, 1, 0), 0);
+    IS(is_readable(one), 0);
     IS(csq_requests_free(&requests), CSQ_OK);
 }
 
 int main(void) {
-    RUN_BOTH(a_write_that_comes_late_is_read);
-    RUN_BOTH(late_writes_are_read_at_once);
+    if (HAS_EVENTFDS) {
+        RUN_BOTH(a_write_that_comes_late_is_read);
+        RUN_BOTH(late_writes_are_read_at_once);
+    }
     RUN_BOTH(a_submit_waits_for_its_time);
     RUN_BOTH(each_act_wakes_who_waits_for_room);
     RUN_BOTH(a_cleanup_wakes_who_waits_for_a_number);
@@ -489,7 +494,9 @@ int main(void) {
     RUN_BOTH(who_is_woken_for_nothing_wakes_nobody);
     RUN_BOTH(a_submit_may_lie_in_its_value);
     RUN_BOTH(a_batch_waits_for_its_first_alone);
-    RUN_BOTH(a_drain_that_sleeps_again_tells_before);
+    if (HAS_EVENTFDS) {
+        RUN_BOTH(a_drain_that_sleeps_again_tells_before);
+    }
     RUN_BOTH(a_batch_leaves_the_others_share);
     return DONE();
 }

@@ -2,7 +2,8 @@
  * the statistics say what became of it. The argument is the number of calls of each thread. */
 #include "requests_check.h"
 
-#include <poll.h>
+#include "eventfds.h"
+
 #include <pthread.h>
 #include <sched.h>
 #include <stdatomic.h>
@@ -274,15 +275,16 @@ static void *wait_for_all(void *of) {
     return NULL;
 }
 
-/* Waits for the eventfd alone. */
+/* Waits for the eventfd alone, if there is one. */
 static void *poll_for_all(void *of) {
     const struct caller *it = of;
     struct csq_request request;
-    struct pollfd one = { -1, POLLIN, 0 };
-    uint32_t code = csq_requests_fd(requests, it->file, &one.fd);
+    const uint32_t milliseconds = HAS_EVENTFDS ? 0 : LONG_TIME;
+    int fd = -1;
+    uint32_t code = csq_requests_fd(requests, it->file, &fd);
     while (code != CSQ_CLOSED) {
-        fault_unless(poll(&one, 1, LONG) == 1);
-        while ((code = csq_requests_next(requests, it->file, 0, &request)) == CSQ_OK) {
+        fault_unless(!HAS_EVENTFDS || becomes_readable(fd, LONG_TIME) == 1);
+        while ((code = csq_requests_next(requests, it->file, milliseconds, &request)) == CSQ_OK) {
             was_taken(&request, it->file);
             complete(&request);
         }
@@ -325,7 +327,7 @@ static void begin(uint32_t list) {
 static void end_all(void) {
     struct csq_requests_stats stats = { sizeof stats, 0, 0, 0, 0, 0, { 0 }, 0, 0, 0, 0 };
     unsigned long ends = 0;
-    IS(csq_requests_drain(requests, CSQ_ANY, LONG), CSQ_OK);
+    IS(csq_requests_drain(requests, CSQ_ANY, LONG_TIME), CSQ_OK);
     IS(csq_requests_read_stats(requests, &stats), CSQ_OK);
     IS(csq_requests_free(&requests), CSQ_OK);
     for (int why = 0; why < 8; why++) {

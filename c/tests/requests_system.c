@@ -201,11 +201,11 @@ static void a_limit_is_from_the_call_on(uint32_t list) {
     IS(csq_requests_next(requests, 0, 0, &taken), CSQ_NONE);
     IS(csq_requests_drain(requests, 0, CSQ_FOREVER), CSQ_OK);
     IS(looks, 0);
-    IS(csq_requests_next(requests, 0, SHORT, &taken), CSQ_NONE);
+    IS(csq_requests_next(requests, 0, SHORT_TIME, &taken), CSQ_NONE);
     IS(looks, 1);
     submit(requests, 1, 0, 0);
     IS(next(requests, 0, &taken), 1);
-    IS(csq_requests_drain(requests, 0, SHORT), CSQ_HOLDING);
+    IS(csq_requests_drain(requests, 0, SHORT_TIME), CSQ_HOLDING);
     IS(looks, 2);
     IS(csq_requests_complete(requests, &taken, 0), CSQ_OK);
     IS(csq_requests_free(&requests), CSQ_OK);
@@ -224,15 +224,15 @@ static void until_the_clock_sleeps(struct csq_requests *requests) {
 /* Of a worker, a submit, a drain and the clock. */
 static void each_sleep_follows_a_look(uint32_t list) {
     struct csq_requests *requests = made(1, list, NULL);
-    const struct csq_submit how = { number(2), 0, 0, SHORT, 0 };
+    const struct csq_submit how = { number(2), 0, 0, SHORT_TIME, 0 };
     struct csq_irp name = { 0, 0 };
     struct csq_request taken;
     sleeps = late_sleeps = 0;
-    IS(csq_requests_next(requests, 0, SHORT, &taken), CSQ_NONE);
+    IS(csq_requests_next(requests, 0, SHORT_TIME, &taken), CSQ_NONE);
     submit(requests, 1, 0, 0);
     IS(csq_requests_submit_with(requests, &how, &name), CSQ_FULL);
     IS(next(requests, 0, &taken), 1);
-    IS(csq_requests_drain(requests, 0, SHORT), CSQ_HOLDING);
+    IS(csq_requests_drain(requests, 0, SHORT_TIME), CSQ_HOLDING);
     IS(csq_requests_start_clock(requests), CSQ_OK);
     until_the_clock_sleeps(requests);
     IS(csq_requests_complete(requests, &taken, 0), CSQ_OK);

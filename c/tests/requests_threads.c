@@ -3,6 +3,7 @@
 #include "../requests/requests.h"
 #include "requests_check.h"
 
+#include <pthread.h>
 #include <sched.h>
 #include <stdatomic.h>
 
@@ -28,12 +29,12 @@ static void *wait_for_one(void *of) {
     struct timespec start;
     uint32_t code;
     clock_gettime(CLOCK_MONOTONIC, &start);
-    code = csq_requests_next(worker->requests, worker->file, LONG, &taken);
+    code = csq_requests_next(worker->requests, worker->file, LONG_TIME, &taken);
     if (code == CSQ_OK) {
         worker->value = number_of(taken.value);
         code = csq_requests_complete(worker->requests, &taken, 0);
     }
-    CHECK(milliseconds_since(start) < LONG);
+    CHECK(milliseconds_since(start) < LONG_TIME);
     worker->code = code;
     return NULL;
 }
@@ -53,7 +54,7 @@ static void end_of(struct worker *worker, uint32_t code, uint32_t value) {
 
 /* Time for another thread to wait. What is tested holds whether or not it does by then. */
 static void rest(void) {
-    struct timespec time = { 0, SHORT * 1000000 };
+    struct timespec time = { 0, SHORT_TIME * 1000000 };
     nanosleep(&time, NULL);
 }
 
@@ -63,10 +64,10 @@ static void until_it_waits(struct csq_requests *requests, uint32_t file, uint32_
     struct timespec start;
     uint32_t waiting = 0;
     clock_gettime(CLOCK_MONOTONIC, &start);
-    while (waiting < count && milliseconds_since(start) < LONG) {
-        pthread_mutex_lock(&requests->mutex);
+    while (waiting < count && milliseconds_since(start) < LONG_TIME) {
+        system_lock(&requests->mutex);
         waiting = of->waiting + of->draining;
-        pthread_mutex_unlock(&requests->mutex);
+        system_unlock(&requests->mutex);
         sched_yield();
     }
     CHECK(waiting >= count);
@@ -78,8 +79,8 @@ static void a_submit_wakes_one_who_waits_for_it(uint32_t list) {
     struct worker workers[3];
     struct timespec begin;
     clock_gettime(CLOCK_MONOTONIC, &begin);
-    IS(csq_requests_next(requests, CSQ_ANY, SHORT, &taken), CSQ_NONE);
-    CHECK(milliseconds_since(begin) >= SHORT - 1);
+    IS(csq_requests_next(requests, CSQ_ANY, SHORT_TIME, &taken), CSQ_NONE);
+    CHECK(milliseconds_since(begin) >= SHORT_TIME - 1);
     for (uint32_t file = 0; file < 3; file++) {
         start(&workers[file], requests, file);
     }
@@ -148,9 +149,9 @@ static void *drain_it(void *of) {
     struct worker *worker = of;
     struct timespec start;
     clock_gettime(CLOCK_MONOTONIC, &start);
-    worker->code = worker->cleans_up ? csq_requests_cleanup(worker->requests, worker->file, LONG)
-                                     : csq_requests_drain(worker->requests, worker->file, LONG);
-    CHECK(milliseconds_since(start) < LONG);
+    worker->code = (worker->cleans_up ? csq_requests_cleanup : csq_requests_drain)(
+        worker->requests, worker->file, LONG_TIME);
+    CHECK(milliseconds_since(start) < LONG_TIME);
     worker->value = under_way(worker->requests, worker->file);
     return NULL;
 }
@@ -257,7 +258,7 @@ struct late {
 static void until_it_is_set(const atomic_uint *flag) {
     struct timespec start;
     clock_gettime(CLOCK_MONOTONIC, &start);
-    while (!atomic_load(flag) && milliseconds_since(start) < LONG) {
+    while (!atomic_load(flag) && milliseconds_since(start) < LONG_TIME) {
         sched_yield();
     }
     CHECK(atomic_load(flag));
@@ -300,16 +301,16 @@ static void who_comes_late_spoils_nothing(uint32_t list) {
 /* ---- Whose time is over ---- */
 
 static void say_end(struct worker *worker, uint32_t code) {
-    pthread_mutex_lock(&worker->requests->mutex);
+    system_lock(&worker->requests->mutex);
     worker->code = code;
     worker->ended = 1;
-    pthread_mutex_unlock(&worker->requests->mutex);
+    system_unlock(&worker->requests->mutex);
 }
 
 static void *wait_a_little(void *of) {
     struct worker *worker = of;
     struct csq_request taken;
-    uint32_t code = csq_requests_next(worker->requests, 0, SHORT, &taken);
+    uint32_t code = csq_requests_next(worker->requests, 0, SHORT_TIME, &taken);
     worker->value = code == CSQ_OK ? number_of(taken.value) : 0;
     say_end(worker, code);
     return NULL;
@@ -317,7 +318,7 @@ static void *wait_a_little(void *of) {
 
 static void *drain_a_little(void *of) {
     struct worker *worker = of;
-    say_end(worker, csq_requests_drain(worker->requests, 0, SHORT));
+    say_end(worker, csq_requests_drain(worker->requests, 0, SHORT_TIME));
     return NULL;
 }
 
@@ -333,16 +334,16 @@ static void hold_up(struct worker *worker, struct csq_requests *requests,
                     void *(*routine)(void *)) {
     const struct requests_file *of = requests_file(requests, 0);
     begin(worker, requests, routine);
-    pthread_mutex_lock(&requests->mutex);
+    system_lock(&requests->mutex);
     while (of->waiting + of->draining == 0 && !check_failed) {
         uint32_t ended = worker->ended;
-        pthread_mutex_unlock(&requests->mutex);
+        system_unlock(&requests->mutex);
         if (ended) {
             IS((unsigned)pthread_join(worker->thread, NULL), 0);
             begin(worker, requests, routine);
         }
         sched_yield();
-        pthread_mutex_lock(&requests->mutex);
+        system_lock(&requests->mutex);
     }
     rest();
     rest();
@@ -357,11 +358,11 @@ static void who_runs_out_of_time_looks_once_more(uint32_t list) {
     hold_up(&worker, requests, wait_a_little);
     IS(csq_ledger_begin(&requests->ledger, 0, 0, CSQ_NEVER, &name), CSQ_OK);
     requests->values[name.irp] = number(5);
-    pthread_mutex_unlock(&requests->mutex);
+    system_unlock(&requests->mutex);
     end_of(&worker, CSQ_OK, 5);
     hold_up(&worker, requests, drain_a_little);
     IS(csq_ledger_finish(&requests->ledger, name, 0, &ended), CSQ_OK);
-    pthread_mutex_unlock(&requests->mutex);
+    system_unlock(&requests->mutex);
     end_of(&worker, CSQ_OK, 0);
     IS(csq_requests_free(&requests), CSQ_OK);
 }
@@ -421,7 +422,7 @@ static void *submit_all(void *of) {
             cancel_one(worker->requests, mine[turn < 3 ? turn : turn - 3].name);
         }
         if (turn % 128 == 127) {
-            fault_unless(csq_requests_drain(worker->requests, worker->file, LONG) == CSQ_OK);
+            fault_unless(csq_requests_drain(worker->requests, worker->file, LONG_TIME) == CSQ_OK);
             fault_unless(under_way(worker->requests, worker->file) == 0);
         }
     }
