@@ -47,7 +47,8 @@ typedef struct _IOCSQ_POLICY {
      * say. It is asked where nothing else happens, so it reads the driver's data without a lock.
      * Null: no request may. */
     BOOLEAN (*Waits)(PIRP Irp); /* or IocsqNoneWaits, below */
-    /* Milliseconds in which the driver ends a request that may not wait. 0: 2,000. */
+    /* Milliseconds in which the driver ends a request that may not wait, from when it is sent; in
+     * the bounded mode, from when its end is expected. 0: 2,000. */
     ULONG Within;
     /* Of a driver without an IO_CSQ. Its IRP_MJ_CLEANUP may leave what waits with a cancel routine,
      * since it ends soon by itself, such as a transfer. */

@@ -5,6 +5,8 @@
  * has the sanitizer, its library takes the calls, and nothing is seen. */
 #include "internal.h"
 
+#include <errno.h>
+
 #if defined(__SANITIZE_THREAD__)
 #define HAS_LIBRARY true
 #elif defined(__has_feature)
@@ -39,7 +41,8 @@ bool iocsq_is_thread_sanitized(void) {
 }
 
 #ifdef HAS_NO_LIBRARY
-#pragma GCC diagnostic ignored "-Wmissing-prototypes" /* the compiler declares them */
+#define TSAN(name) __tsan_##name
+#include "stubs.h"
 
 enum { WORD = 8 };
 
@@ -91,8 +94,9 @@ static void expect_memory(const void *at) {
     }
 }
 
+/* Threads in turns have their own errno at one address, which each switch keeps for them. */
 static bool is_checked(const void *at) {
-    return iocsq_checks_races() && !iocsq_own.hushed && !iocsq_is_own_stack(at);
+    return iocsq_checks_races() && !iocsq_own.hushed && !iocsq_is_own_stack(at) && at != &errno;
 }
 
 /* One is about to be made, of this many bytes: plain, or volatile. */
@@ -138,67 +142,11 @@ static void read_memory(const volatile void *of, size_t size, unsigned how, cons
     }
 }
 
-void __tsan_init(void) {
-    sees = true;
-}
-void __tsan_func_entry(void *caller) {
-    (void)caller;
-}
-void __tsan_func_exit(void) {
-}
-
-#define PLACE __builtin_return_address(0)
-/* Plain, unaligned and volatile accesses; volatile is what Irp->Cancel is to C++. */
-#define ACCESS(name, size, call, how) \
-    void __tsan_##name##size(void *at) { call(at, size, how, PLACE); }
-#define ACCESSES(name, call, how) \
-    ACCESS(name, 1, call, how) ACCESS(name, 2, call, how) ACCESS(name, 4, call, how) \
-    ACCESS(name, 8, call, how) ACCESS(name, 16, call, how)
-ACCESSES(read, read_memory, IOCSQ_READS)
-ACCESSES(write, access_memory, IOCSQ_WRITES)
-ACCESSES(read_write, access_memory, IOCSQ_WRITES)
-ACCESSES(unaligned_read, read_memory, IOCSQ_READS)
-ACCESSES(unaligned_write, access_memory, IOCSQ_WRITES)
-ACCESSES(unaligned_read_write, access_memory, IOCSQ_WRITES)
-ACCESSES(volatile_read, read_memory, IOCSQ_ATOMIC)
-ACCESSES(volatile_write, access_memory, IOCSQ_WRITES | IOCSQ_ATOMIC)
-ACCESSES(unaligned_volatile_read, read_memory, IOCSQ_ATOMIC)
-ACCESSES(unaligned_volatile_write, access_memory, IOCSQ_WRITES | IOCSQ_ATOMIC)
-
-/* C++: the pointer to an object's virtual functions. */
-void __tsan_vptr_read(void **at) {
-    access_memory(at, sizeof *at, IOCSQ_READS, PLACE);
-}
-void __tsan_vptr_update(void **at, void *value) {
-    if (*at != value) {
-        access_memory(at, sizeof *at, IOCSQ_WRITES, PLACE);
-    }
-}
-void __tsan_read_range(void *at, size_t size) {
-    access_memory(at, size, IOCSQ_READS, PLACE);
-}
-void __tsan_write_range(void *at, size_t size) {
-    access_memory(at, size, IOCSQ_WRITES, PLACE);
-}
-
-/* In the place of the C library's: some compilers call these, and for others the driver is compiled
- * with memcpy and so on defined as these. */
-void *__tsan_memmove(void *to, const void *from, size_t size) {
-    access_memory(from, size, IOCSQ_READS, PLACE);
-    access_memory(to, size, IOCSQ_WRITES, PLACE);
-    return memmove(to, from, size);
-}
-void *__tsan_memcpy(void *to, const void *from, size_t size)
-    __attribute__((alias("__tsan_memmove")));
-void *__tsan_memset(void *to, int value, size_t size) {
-    access_memory(to, size, IOCSQ_WRITES, PLACE);
-    return memset(to, value, size);
-}
-
 /* ---- Atomic operations, which the calls make: in C, reads of Irp->Cancel are among them ---- */
-static void access_atomic(const volatile void *of, size_t size, bool writes, int order,
+static void access_atomic(const volatile void *of, size_t size, enum atomic did, int order,
                           const void *place) {
     const void *at = (const void *)(uintptr_t)of;
+    bool writes = did != LOADED;
     bool acquires = order != __ATOMIC_RELAXED && order != __ATOMIC_RELEASE;
     bool releases = writes && order != __ATOMIC_RELAXED && order != __ATOMIC_ACQUIRE &&
                     order != __ATOMIC_CONSUME;
@@ -219,52 +167,13 @@ static void load_atomic(const volatile void *of, size_t size, int order, const v
     if (i) {
         look_at(i, at, size, IOCSQ_ATOMIC, place);
     } else {
-        access_atomic(of, size, false, order, place);
+        access_atomic(of, size, LOADED, order, place);
     }
 }
 
-#define FETCH(bits, T, name, builtin)                                    \
-    T __tsan_atomic##bits##_##name(volatile T *at, T value, int order) { \
-        access_atomic(at, sizeof *at, true, order, PLACE);               \
-        return builtin(at, value, __ATOMIC_SEQ_CST);                     \
-    }
-#define ATOMIC(bits, T)                                                                          \
-    T __tsan_atomic##bits##_load(const volatile T *at, int order) {                              \
-        load_atomic(at, sizeof *at, order, PLACE);                                               \
-        return __atomic_load_n(at, __ATOMIC_SEQ_CST);                                            \
-    }                                                                                            \
-    void __tsan_atomic##bits##_store(volatile T *at, T value, int order) {                       \
-        access_atomic(at, sizeof *at, true, order, PLACE);                                       \
-        __atomic_store_n(at, value, __ATOMIC_SEQ_CST);                                           \
-    }                                                                                            \
-    FETCH(bits, T, exchange, __atomic_exchange_n)                                                \
-    FETCH(bits, T, fetch_add, __atomic_fetch_add)                                                \
-    FETCH(bits, T, fetch_sub, __atomic_fetch_sub)                                                \
-    FETCH(bits, T, fetch_and, __atomic_fetch_and)                                                \
-    FETCH(bits, T, fetch_or, __atomic_fetch_or)                                                  \
-    FETCH(bits, T, fetch_xor, __atomic_fetch_xor)                                                \
-    FETCH(bits, T, fetch_nand, __atomic_fetch_nand)                                              \
-    int __tsan_atomic##bits##_compare_exchange_strong(volatile T *at, T *expected, T value,      \
-                                                      int order, int otherwise) {                \
-        (void)otherwise;                                                                         \
-        access_atomic(at, sizeof *at, *at == *expected, order, PLACE);                           \
-        return __atomic_compare_exchange_n(at, expected, value, 0, __ATOMIC_SEQ_CST,             \
-                                           __ATOMIC_SEQ_CST);                                    \
-    }                                                                                            \
-    int __tsan_atomic##bits##_compare_exchange_weak(volatile T *at, T *expected, T value,        \
-                                                    int order, int otherwise) {                  \
-        return __tsan_atomic##bits##_compare_exchange_strong(at, expected, value, order,         \
-                                                             otherwise);                         \
-    }                                                                                            \
-    T __tsan_atomic##bits##_compare_exchange_val(volatile T *at, T expected, T value, int order, \
-                                                 int otherwise) {                                \
-        __tsan_atomic##bits##_compare_exchange_strong(at, &expected, value, order, otherwise);   \
-        return expected;                                                                         \
-    }
-ATOMIC(8, unsigned char)
-ATOMIC(16, unsigned short)
-ATOMIC(32, unsigned int)
-ATOMIC(64, unsigned long)
+void __tsan_init(void) {
+    sees = true;
+}
 
 /* As KeMemoryBarrier: all fences are in one order. */
 void __tsan_atomic_thread_fence(int order) {

@@ -5,7 +5,6 @@
 #include "internal.h"
 
 #include <stdlib.h>
-#include <sys/mman.h>
 
 enum { ARENA = 1 << 28, ALIGNMENT = 16 };
 static char *arena; /* null: there is none; mapped once, before the variables are saved */
@@ -17,22 +16,23 @@ struct block {
     size_t aligns;
 };
 
-void *__real_malloc(size_t size) __attribute__((weak));
-void *__real_calloc(size_t count, size_t size) __attribute__((weak));
-void *__real_realloc(void *at, size_t size) __attribute__((weak));
-void __real_free(void *at) __attribute__((weak));
+void *__real_malloc(size_t size) IOCSQ_REAL;
+void *__real_calloc(size_t count, size_t size) IOCSQ_REAL;
+void *__real_realloc(void *at, size_t size) IOCSQ_REAL;
+void __real_free(void *at) IOCSQ_REAL;
 void *__wrap_malloc(size_t size);
 void *__wrap_calloc(size_t count, size_t size);
 void *__wrap_realloc(void *at, size_t size);
 void __wrap_free(void *at);
 
+/* Whether the program is linked so. */
+static bool is_linked(void *(*real)(size_t)) {
+    return real != NULL;
+}
+
 bool iocsq_begin_arena(void) {
-    if (__real_malloc && !arena) {
-        arena = mmap(NULL, ARENA, PROT_READ | PROT_WRITE,
-                     MAP_PRIVATE | MAP_ANONYMOUS | MAP_NORESERVE, -1, 0);
-        if (arena == MAP_FAILED) {
-            iocsq_fail("no memory for runs");
-        }
+    if (is_linked(__real_malloc) && !arena) {
+        arena = iocsq_map(ARENA, "no memory for runs");
     }
     return arena != NULL;
 }

@@ -11,7 +11,8 @@ uint64_t iocsq_now_in_turns(void) {
     return now;
 }
 
-void iocsq_set_clock(uint64_t nanoseconds) {
+/* By no thread, as iocsq_touch_clock has it. */
+IOCSQ_COMMUTES void iocsq_set_clock(uint64_t nanoseconds) {
     now = nanoseconds;
     iocsq_touch_clock();
 }
@@ -25,7 +26,9 @@ static bool stands_still(void) {
 }
 
 void iocsq_pass_time_of_turn(void) {
-    now += stands_still() ? 0 : TURN;
+    if (!stands_still()) {
+        now += TURN;
+    }
 }
 
 void iocsq_pass_time_of_call(void) {

@@ -1,24 +1,20 @@
-/* Contexts of one thread of the system, each with a stack of its own. */
+/* Contexts of one thread of the system, each with a stack of its own and a number. They are the
+ * threads of a run in turns, where one runs at a time: a switch between two threads of the system
+ * takes too long. */
 #ifndef IOCSQ_CONTEXTS_H
 #define IOCSQ_CONTEXTS_H
 #include <stdbool.h>
 #include <stddef.h>
-#include <ucontext.h>
 
-struct iocsq_context {
-    ucontext_t registers;
-    void *stack; /* null: that of the thread of the system */
-    size_t size;
-};
-
-/* Room for the stacks of so many. */
+/* Room for contexts with numbers below this one; 0 is the one that runs. */
 void iocsq_begin_contexts(size_t count);
-/* One that begins with this function, as it is first switched to; the function never returns. It
- * has the stack of this number, which no other has at the time. */
-void iocsq_make_context(struct iocsq_context *made, size_t stack, void (*begin)(void));
-/* The first that such a function does. */
-void iocsq_enter_context(void);
-/* Goes on with `to`; returns once another switches to `from`, and never if that has ended. */
-void iocsq_switch_context(struct iocsq_context *from, struct iocsq_context *to, bool ended);
+/* It begins with this function, which never returns, as it is first switched to. No other that
+ * has this number goes on any more. */
+void iocsq_make_context(size_t number, void (*begin)(void));
+/* Leaves `from`, which runs, and goes on with `to`. Returns once another switches to `from`, and
+ * never if that has ended. */
+void iocsq_switch_context(size_t from, size_t to, bool ended);
+/* Goes on where context 0 called __builtin_setjmp, from whichever this is. */
+void iocsq_leave_contexts(void **to) __attribute__((noreturn));
 
 #endif

@@ -127,15 +127,20 @@ static uintptr_t address_of(const IO_CSQ *csq, enum iocsq_callback which) {
     }
 }
 
+/* All write the same. */
+IOCSQ_COMMUTES static void note_use(struct iocsq_queue *q) {
+    q->used = true;
+}
+
 void iocsq_cover_call(struct iocsq_queue *q, enum iocsq_callback which) {
     q->kind->calls[which]++;
-    q->used = true;
+    note_use(q);
     if (which != IOCSQ_PEEK) {
         iocsq_own.callback = address_of(&q->kind->callbacks, which);
     }
 }
 
-void iocsq_note_null_context(struct iocsq_queue *q) {
+IOCSQ_COMMUTES void iocsq_note_null_context(struct iocsq_queue *q) {
     q->kind->null_contexts = true;
 }
 

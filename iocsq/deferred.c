@@ -134,16 +134,20 @@ static bool has_processor_work(void *of) {
     return first_dpc || timers_changed || ending;
 }
 
+/* Until the next timer is due, in nanoseconds. The wait looks at the clock. */
+static uint64_t time_to_timer(void) {
+    const KTIMER *next = next_timer();
+    uint64_t now = next ? iocsq_now() : 0;
+    return !next ? IOCSQ_FOR_EVER : next->DueTime > now ? next->DueTime - now : 0;
+}
+
 static void *run_processor(void *of) {
     iocsq_own.is_processor = true;
     iocsq_lock_state_for(&timers, IOCSQ_CHANGES);
     while (!ending) {
         timers_changed = false; /* here alone: who cancels a timer doesn't wait for the others */
-        KTIMER *next = next_timer();
-        uint64_t now = iocsq_now(), wait = !next                 ? IOCSQ_FOR_EVER
-                                           : next->DueTime > now ? next->DueTime - now
-                                                                 : 0;
-        iocsq_await_time(has_processor_work, NULL, wait, "a timer or a DPC");
+        iocsq_touch(&timers, IOCSQ_CHANGES);
+        iocsq_await_time(has_processor_work, NULL, time_to_timer(), "a timer or a DPC");
         iocsq_touch(&timers, IOCSQ_CHANGES);
         iocsq_touch(&first_dpc, IOCSQ_CHANGES);
         iocsq_look_at_clock();
@@ -250,6 +254,7 @@ BOOLEAN NTAPI KeSetTimerEx(PKTIMER Timer, LARGE_INTEGER DueTime, LONG Period, PK
         iocsq_touch(Dpc, IOCSQ_CHANGES | IOCSQ_RELEASES);
     }
     iocsq_pass_time_of_call();
+    iocsq_look_at_clock();
     need_processor();
     bool was_set = unset(Timer);
     Timer->Header.SignalState = 0;

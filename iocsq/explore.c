@@ -5,18 +5,14 @@
  *
  * With the driver's accesses, runs that would repeat what others did are ended (states.c).
  *
- * A process explores: it gives the program's variables back their values before each run
- * (variables.c). A report ends it, and what it wrote down is left to the process that began it. */
-#define _GNU_SOURCE
+ * A process explores (iocsq_run_apart): it gives the program's variables back their values before
+ * each run (variables.c). A report ends it, and what it wrote down is left to the one that began
+ * it. */
+#include "contexts.h"
 #include "internal.h"
 #include "plans.h"
 
-#include <errno.h>
 #include <stdlib.h>
-#include <sys/mman.h>
-#include <sys/wait.h>
-#include <time.h>
-#include <unistd.h>
 
 enum { CHOICES = 1 << 16, MOST_PREEMPTIONS = 8, SECONDS = 20, MEASURED = 20 };
 enum { PLACES = 300, NAME = 600 };
@@ -71,13 +67,14 @@ VOID IocsqChoices(VOID) {
 static void leave_run(void) {
     iocsq_report_race();
     shared->run.left = true;
-    __builtin_longjmp(back, 1);
+    iocsq_leave_contexts(back);
 }
 
 void iocsq_note_place(uintptr_t place) {
     size_t used = explores ? strlen(shared->places) : 0;
     if (explores) {
-        snprintf(shared->places + used, PLACES - used, "at:%lx,", (unsigned long)place);
+        snprintf(shared->places + used, PLACES - used, "at:%llx,",
+                 (unsigned long long)place);
     }
 }
 
@@ -185,38 +182,30 @@ static void run_plan(void (*call)(PVOID context), PVOID context, const struct io
 }
 
 /* ---- Processes ---- */
-static int status_of(pid_t child) {
-    int status;
-    while (child < 0 || waitpid(child, &status, 0) < 0) {
-        if (child < 0 || errno != EINTR) {
-            iocsq_fail("no process for a run");
-        }
-    }
-    return WIFEXITED(status) ? WEXITSTATUS(status) : 128 + WTERMSIG(status); /* as a shell has it */
+struct planned_run {
+    void (*call)(PVOID context);
+    PVOID context;
+    const struct iocsq_plan *made;
+};
+
+static void make_run(void *of) {
+    const struct planned_run *run = of;
+    run_plan(run->call, run->context, run->made);
 }
 
 /* Runs a plan as if it were the first: a sanitizer has variables of its own, so with one each run
  * is a process. */
 static void run_afresh(const struct iocsq_variables *variables, void (*call)(PVOID context),
                        PVOID context, const struct iocsq_plan *made) {
-    pid_t child = variables ? 0 : fork();
-    if (child == 0) {
-        run_plan(call, context, made);
-    }
+    struct planned_run run = { call, context, made };
     if (variables) {
-        iocsq_use_arena(false);
-        iocsq_forget_irps();
-        iocsq_restore_variables(variables);
-        if (shared->run.left) {
-            iocsq_leave_turns();
-        }
-    } else if (child == 0) {
-        _exit(0);
-    } else {
-        int status = status_of(child);
-        if (status != 0) {
-            _exit(status);
-        }
+        make_run(&run);
+        iocsq_forget_run(variables);
+        return;
+    }
+    int status = iocsq_run_apart(make_run, &run);
+    if (status != 0) {
+        iocsq_exit(status);
     }
 }
 
@@ -255,18 +244,14 @@ static void begin_exploration(void) {
     if (!bounded) {
         iocsq_fail("IocsqBounded was not called first");
     }
-    shared = mmap(NULL, sizeof *shared, PROT_READ | PROT_WRITE,
-                  MAP_SHARED | MAP_ANONYMOUS | MAP_NORESERVE, -1, 0);
-    if (shared == MAP_FAILED) {
-        iocsq_fail("no memory for the choices of a run");
-    }
-    fflush(NULL); /* what is buffered isn't each process's */
+    shared = iocsq_map_shared(sizeof *shared, "no memory for the choices of a run");
 }
 
 /* What there is to run. */
 struct exploration {
     void (*call)(PVOID context);
     PVOID context;
+    ULONG depth, most; /* of runs by priorities; and how many of them, or preemptions */
     const struct iocsq_variables *variables;
     struct iocsq_pile ready;       /* plans that have yet to be run */
     struct iocsq_pile parents;     /* those with one preemption fewer: what they lead to has yet to
@@ -337,10 +322,8 @@ VOID IocsqExploreWithin(ULONG Seconds) {
     most_seconds = Seconds;
 }
 
-static time_t second(void) {
-    struct timespec now;
-    clock_gettime(CLOCK_MONOTONIC, &now);
-    return now.tv_sec;
+static uint64_t second(void) {
+    return iocsq_clock() / 1000000000;
 }
 
 static void begin_first(struct exploration *e) {
@@ -356,9 +339,10 @@ static void begin_first(struct exploration *e) {
 }
 
 /* In the process that explores: if this returns, all were run, or the time is over. */
-static void explore(struct exploration *e, ULONG most) {
+static void explore(void *of) {
+    struct exploration *e = of;
     bool limited = most_seconds > 0;
-    time_t end = second() + (time_t)most_seconds;
+    uint64_t end = second() + most_seconds;
     explores = true;
     iocsq_begin_races();
     iocsq_begin_states();
@@ -366,32 +350,33 @@ static void explore(struct exploration *e, ULONG most) {
     e->variables = iocsq_save_variables();
     begin_first(e);
     while (shared->begins_again || e->ready.count > 0 || e->parents.count > 0 ||
-           shared->explored.Preemptions < most) {
+           shared->explored.Preemptions < e->most) {
         if (limited && second() >= end) {
             shared->explored.Unfinished = TRUE;
-            return;
+            break;
         }
         if (shared->begins_again) {
             begin_first(e);
         }
         if (e->ready.count > 0) {
-            run_ready(e, shared->explored.Preemptions < most);
+            run_ready(e, shared->explored.Preemptions < e->most);
         } else if (e->parents.count > 0) {
             expand_parent(e);
         } else {
             begin_next_preemptions(e);
         }
     }
+    fflush(traces_to);
 }
 
 /* What came of it, once the process that explores has ended. */
-static IOCSQ_EXPLORED end_exploration(pid_t child) {
-    shared->explored.Status = status_of(child);
+static IOCSQ_EXPLORED end_exploration(int status) {
+    shared->explored.Status = status;
     IOCSQ_EXPLORED explored = shared->explored;
     bool is_first = shared->name[0] == '\0';
     snprintf(explored.Schedule, sizeof explored.Schedule, "%s%s", shared->places,
              is_first ? "0:0" : shared->name);
-    munmap(shared, sizeof *shared);
+    iocsq_unmap(shared, sizeof *shared);
     shared = NULL;
     return explored;
 }
@@ -401,14 +386,8 @@ IOCSQ_EXPLORED IocsqExplore(VOID (*Run)(PVOID Context), PVOID Context, ULONG Mos
         iocsq_fail("more than %u preemptions", (unsigned)MOST_PREEMPTIONS);
     }
     begin_exploration();
-    pid_t child = fork();
-    if (child == 0) {
-        struct exploration e = { .call = Run, .context = Context };
-        explore(&e, MostPreemptions);
-        fflush(traces_to);
-        _exit(0);
-    }
-    return end_exploration(child);
+    struct exploration e = { .call = Run, .context = Context, .most = MostPreemptions };
+    return end_exploration(iocsq_run_apart(explore, &e));
 }
 
 /* ---- Runs by priorities ---- */
@@ -430,12 +409,13 @@ static uint32_t measure_steps(struct exploration *e) {
     return 2 * most;
 }
 
-static void draw_runs(struct exploration *e, ULONG depth, ULONG runs) {
+static void draw_runs(void *of) {
+    struct exploration *e = of;
     iocsq_begin_races();
     e->variables = iocsq_save_variables();
-    struct iocsq_priorities drawn = { depth, measure_steps(e), 0 };
+    struct iocsq_priorities drawn = { e->depth, measure_steps(e), 0 };
     shared->explored.Steps = drawn.steps;
-    for (drawn.seed = 1; drawn.seed <= runs; drawn.seed++) {
+    for (drawn.seed = 1; drawn.seed <= e->most; drawn.seed++) {
         run_by_priorities(e, drawn);
         bool longer = shared->run.steps > drawn.steps;
         shared->explored.Schedules += !longer;
@@ -451,13 +431,8 @@ IOCSQ_EXPLORED IocsqDraw(VOID (*Run)(PVOID Context), PVOID Context, ULONG Depth,
         iocsq_fail("a depth that isn't from 1 to %u", (unsigned)IOCSQ_DEPTH);
     }
     begin_exploration();
-    pid_t child = fork();
-    if (child == 0) {
-        struct exploration e = { .call = Run, .context = Context };
-        draw_runs(&e, Depth, Runs);
-        _exit(0);
-    }
-    return end_exploration(child);
+    struct exploration e = { .call = Run, .context = Context, .depth = Depth, .most = Runs };
+    return end_exploration(iocsq_run_apart(draw_runs, &e));
 }
 
 /* ---- One schedule alone ---- */

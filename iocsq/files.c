@@ -62,8 +62,7 @@ bool iocsq_reference_file(PVOID object, int change) {
         return false;
     }
     iocsq_touch(&of_driver[number], IOCSQ_LOOKS | IOCSQ_RELEASES);
-    of_driver[number] += change;
-    if (of_driver[number] < 0) {
+    if (__atomic_add_fetch(&of_driver[number], change, __ATOMIC_RELAXED) < 0) {
         iocsq_disagree(NULL, "ObDereferenceObject of file %u, more often than it was referenced",
                        number);
     }
@@ -71,12 +70,18 @@ bool iocsq_reference_file(PVOID object, int change) {
     return true;
 }
 
+/* Two that add commute. */
+static void add_reference(const void *file, int change) {
+    uint32_t *count = &references[number_of(file)];
+    iocsq_touch(count, IOCSQ_LOOKS);
+    __atomic_add_fetch(count, (uint32_t)change, __ATOMIC_RELAXED);
+}
+
 /* An IRP that isn't completed keeps its file object from being closed (wait_for_close). */
 void iocsq_take_over_reference(void) {
     iocsq_own.took_over = iocsq_own.handed_over != NULL;
     if (iocsq_own.took_over) {
-        iocsq_touch(&references[number_of(iocsq_own.handed_over)], IOCSQ_LOOKS);
-        references[number_of(iocsq_own.handed_over)]--;
+        add_reference(iocsq_own.handed_over, -1);
         iocsq_own.handed_over = NULL;
         iocsq_state_changed();
     }
@@ -132,10 +137,9 @@ PFILE_OBJECT IocsqReferenceAny(VOID) {
     for (uint32_t at = 0; at < IOCSQ_FILES && !file; at++) {
         uint32_t number = (from + at) % IOCSQ_FILES;
         if (is_open[number] && !is_closing[number]) {
-            references[number]++;
             file = &files[number];
             iocsq_touch(file, IOCSQ_LOOKS | IOCSQ_ACQUIRES);
-            iocsq_touch(&references[number], IOCSQ_LOOKS);
+            add_reference(file, 1);
         }
     }
     iocsq_unlock_state();
@@ -146,9 +150,10 @@ PFILE_OBJECT IocsqReferenceAny(VOID) {
 BOOLEAN IocsqReference(PFILE_OBJECT File) {
     uint32_t number = number_of(File);
     iocsq_lock_state_for(File, IOCSQ_LOOKS | IOCSQ_ACQUIRES);
-    iocsq_touch(&references[number], IOCSQ_LOOKS);
     bool may = is_open[number] && !is_closing[number];
-    references[number] += may;
+    if (may) {
+        add_reference(File, 1);
+    }
     iocsq_unlock_state();
     iocsq_point(); /* as in IocsqReferenceAny */
     return may;
@@ -156,7 +161,7 @@ BOOLEAN IocsqReference(PFILE_OBJECT File) {
 
 VOID IocsqRelease(PFILE_OBJECT File) {
     iocsq_lock_state_for(&references[number_of(File)], IOCSQ_LOOKS | IOCSQ_RELEASES);
-    references[number_of(File)]--;
+    add_reference(File, -1);
     iocsq_state_changed();
     iocsq_unlock_state();
 }

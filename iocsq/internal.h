@@ -4,6 +4,7 @@
 #define IOCSQ_INTERNAL_H
 #include "iocsq_test.h"
 #include "hand.h"
+#include "system.h"
 #include "traces.h"
 
 #include <stdatomic.h>
@@ -69,7 +70,7 @@ struct iocsq_irp {
     _Atomic uint32_t use; /* which of its uses this is: it is sent, allocated, freed */
     UCHAR major;
     PFILE_OBJECT file;
-    uint64_t sent; /* when, in nanoseconds */
+    uint64_t sent; /* when, in nanoseconds (iocsq_note_sent) */
     uint32_t most; /* bytes that its completion may name: those of its buffer */
     struct iocsq_buffer buffer, direct; /* AssociatedIrp.SystemBuffer, and what MdlAddress
                                          * describes */
@@ -157,6 +158,9 @@ void iocsq_end_buffers(const struct iocsq_irp *i, const void *place); /* by its 
 void iocsq_check_buffers_untouched(const struct iocsq_irp *i);
 void iocsq_free_buffers(struct iocsq_irp *i);
 
+/* ---- patience.c ---- */
+void iocsq_note_sent(struct iocsq_irp *i);
+
 /* ---- manager.c ---- */
 ULONG iocsq_patience(void); /* milliseconds after which a request that should have been completed
                              * will never be */
@@ -243,17 +247,15 @@ void iocsq_point(void);         /* another thread may come between here */
 void iocsq_long_point(uint32_t in); /* and once in so many times others come between for long */
 /* Notes a call, for the reports; `about` may be null. */
 void iocsq_log(const struct iocsq_irp *about, const char *format, ...)
-    __attribute__((format(printf, 2, 3)));
+    __attribute__((format(IOCSQ_PRINTF, 2, 3)));
 void iocsq_log_sent(const struct iocsq_irp *about, const char *format, ...)
-    __attribute__((format(printf, 2, 3)));
+    __attribute__((format(IOCSQ_PRINTF, 2, 3)));
 void iocsq_log_of_driver(const char *call); /* of no IRP, and only where the driver is at work */
 /* The driver's fault: reports it, and ends the program. `about` may be null. */
 void iocsq_disagree(const struct iocsq_irp *about, const char *format, ...)
-    __attribute__((format(printf, 2, 3), noreturn));
+    __attribute__((format(IOCSQ_PRINTF, 2, 3), noreturn));
 /* A second line for a report of this thread; null: none. */
 void iocsq_set_hint(const char *text);
-/* No fault of the driver's. */
-void iocsq_fail(const char *format, ...) __attribute__((format(printf, 1, 2), noreturn));
 void iocsq_show_last_calls(void);
 extern IOCSQ_COUNTS iocsq_counts;
 #define IOCSQ_COUNT(of) __atomic_add_fetch(&iocsq_counts.of, 1, __ATOMIC_RELAXED)
@@ -261,8 +263,6 @@ extern IOCSQ_COUNTS iocsq_counts;
 /* ---- places.c ---- */
 void iocsq_show_places(bool in_signal); /* the driver's calls of this thread, the innermost first */
 void iocsq_show_function(const char *how, uintptr_t address); /* a line: how, and where that is */
-void iocsq_prepare_places(void);
-int iocsq_frames(void **frames, int most); /* this thread's stack: how many there are */
 
 /* ---- schedule.c ---- */
 void iocsq_begin_steps(struct iocsq_irp *i);
@@ -305,7 +305,8 @@ void iocsq_forget_priorities(void); /* of the threads that there are: their memo
 void iocsq_turn_point(void);
 void iocsq_long_turn_point(uint32_t in);
 void iocsq_yield(void); /* lets another thread run, in turns and else */
-/* `is_time`: the wait ends by the clock, which may come early; else the time is only a limit. */
+/* Returns once it may go on, at once if it may. `is_time`: the wait ends by the clock, which may
+ * come early; else the time is only a limit. */
 void iocsq_wait_in_turns(bool (*may_go)(void *), void *of, uint64_t nanoseconds, bool is_time,
                          const char *what);
 void iocsq_end_turns_of_thread(void);
@@ -353,8 +354,6 @@ uint32_t iocsq_draw_by_priorities(uint32_t below);
 uint32_t iocsq_steps(void); /* that were made */
 
 /* ---- variables.c ---- */
-struct iocsq_variables;
-const struct iocsq_variables *iocsq_save_variables(void); /* null: a sanitizer's are among them */
 void iocsq_restore_variables(const struct iocsq_variables *saved);
 
 /* ---- waits.c ---- */

@@ -18,7 +18,7 @@ static bool are_done(void *of) {
 
 VOID IocsqJoinAll(IOCSQ_THREAD *Threads, ULONG Count) {
     struct joined joined = { Threads, Count };
-    if (iocsq_in_turns() && !are_done(&joined)) {
+    if (iocsq_in_turns()) {
         iocsq_wait_in_turns(are_done, &joined, IOCSQ_FOR_EVER, false, "threads' ends");
     }
     for (ULONG at = 0; at < Count; at++) {

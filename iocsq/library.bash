@@ -17,6 +17,15 @@ races=(races/{start,drain,context,timer,table,blocks})
 unusual=(unusual/{array,chain,context,dpcdone,drain,fastmutex,gate,mailbox,parked,perfile,ranks,removelock,twolocks,workdone}
   unusual/{clock,handover,hold,letters,look,mark,packets,recancel,relay,restart,selfcall,slots,state,stored,sweep,switch,twolists})
 
+# All of them; with a number after a colon, those that are right in another way.
+right=("${drivers[@]}" "${usual[@]}" "${hand[@]}" "${kmdf[@]}" "${unusual[@]}" "${races[@]}" races/start:5{0,1}
+  races/drain:5{0,1,2,3} races/table:50)
+
+# Prints the number of such a driver; 0 for one that has none.
+iocsq_number() {
+  if [[ $1 == *:* ]]; then echo "${1#*:}"; else echo 0; fi
+}
+
 # The flags with which a driver is compiled so that iocsq/accesses.c sees its accesses: iocsq_sees COMPILER FLAG..
 iocsq_sees() {
   local volatile=(--param tsan-distinguish-volatile=1) call
@@ -28,43 +37,91 @@ iocsq_sees() {
 # Memory of one run is taken from iocsq/arena.c.
 wraps=("-Wl,--wrap=malloc" "-Wl,--wrap=calloc" "-Wl,--wrap=realloc" "-Wl,--wrap=free")
 
-# Compiles the checker once for each compiler and flags, and prints the folder with its objects; those of the tests are
-# in the folder `tests` of it: iocsq_objects COMPILER FLAG..
-iocsq_objects() {
-  local name=${*//[^A-Za-z0-9]/_} file object
-  local folder=$work/objects/$name
-  if [[ ! -d $folder ]]; then
-    mkdir -p "$folder.new/tests"
-    for file in "$top"/iocsq/*.c "$top"/iocsq/tests/{storm,patient,bounded,kernel,names,misuse,wdf,coverage,explore,priorities,races,arena}.c; do
-      object=${file#"$top/iocsq/"}
-      "$@" -std=c11 "${warnings[@]}" -I"$top/include" -I"$top/iocsq" -c "$file" -o "$folder.new/${object%.c}.o" ||
-        return 1
-    done
-    if ((${#library[@]} == 0)); then
-      csq_plain_queue "$top" "$folder.new/libcsq_plain.a" "$@" || return 1
-    fi
-    mv "$folder.new" "$folder"
-  fi
-  echo "$folder"
+# make_once FILE COMMAND..: the command makes this file (by -o), unless it was made before.
+make_once() {
+  local made=$1
+  shift
+  if [[ -f $made ]]; then return; fi
+  mkdir -p "${made%/*}" && "$@" -o "$made.new" && mv "$made.new" "$made"
 }
 
-# Links the storm with a driver: iocsq_build PROGRAM DRIVER WRONG COMPILER FLAG.. In its place another test of the folder
-# `tests`: TEST=kernel iocsq_build PROGRAM .. DRIVER is a file below iocsq without
-# its ending; beside it NAME.test.c says what its callbacks mean, if it isn't the usual. WRONG is the number of the
-# place where it is wrong, 0 for none, `planted` for an example's own fault, or the file of another below iocsq.
-iocsq_build() {
-  local program=$1 driver=$top/iocsq/$2 wrong=$3 objects test=() fault=() sees source=$top/iocsq/$2.c
-  shift 3
+# Sets `folder` to where lies what is made with this compiler and these flags, below `work` or, so that two scripts
+# share it, IOCSQ_OBJECTS: set_folder COMPILER FLAG..
+set_folder() {
+  local name=$*
+  folder=${IOCSQ_OBJECTS:-$work/objects}/${name//[^A-Za-z0-9]/_}
+}
+
+# Sets `own` to the command for the checker's own files: set_own COMPILER FLAG.. No report has their lines (-g) but a
+# sanitizer's, for which few are enough.
+set_own() {
+  local flag
+  own=()
+  for flag; do
+    if [[ $flag != -g ]]; then own+=("$flag"); elif [[ $* == *sanitize* ]]; then own+=(-g1); fi
+  done
+}
+
+# compile_own FILE: a file of the checker, without the ending, into `folder`.
+compile_own() {
+  make_once "$folder/${1#"$top/iocsq/"}.o" "${own[@]}" -std=c11 "${warnings[@]}" -I"$top/include" -I"$top/iocsq" \
+    -c "$1.c"
+}
+
+# Builds the plain queue into `folder`, if that is what is linked.
+make_plain() {
+  if ((${#library[@]} > 0)) || [[ -f $folder/plain/libcsq.a ]]; then return; fi
+  mkdir -p "$folder/plain" && csq_plain_queue "$top" "$folder/plain/libcsq.a" "${own[@]}"
+}
+
+# Links the checker with the test of this name in the folder `tests`, and with these files: iocsq_link PROGRAM TEST
+# FILE.. -- COMPILER FLAG.. Of C++ LINKER does, in the compiler's place.
+iocsq_link() {
+  local program=$1 test=$2 files=() own folder file
+  shift 2
+  while [[ $1 != -- ]]; do
+    files+=("$1")
+    shift
+  done
+  shift
+  set_own "$@"
+  set_folder "${own[@]}"
+  for file in "$top"/iocsq/*.c "$top/iocsq/tests/$test.c"; do
+    compile_own "${file%.c}" || return 1
+  done
+  make_plain || return 1
+  "${LINKER:-$1}" "${@:2}" "$folder"/*.o "$folder/tests/$test.o" "${files[@]}" \
+    "${library[@]:-$folder/plain/libcsq.a}" "${wraps[@]}" -pthread -o "$program"
+}
+
+# Compiles a driver, and beside it NAME.test.c, which says what its callbacks mean, if it isn't the usual; sets
+# `driver_objects`: compile_driver DRIVER WRONG COMPILER FLAG.. (as iocsq_build has them).
+compile_driver() {
+  local source=$top/iocsq/$1.c policy=$top/iocsq/$1.test.c wrong=$2 name=${1//\//_} fault=() sees folder
+  local numbered=${name}_${2//\//_}
+  set_folder "${@:3}"
+  folder+=/drivers
   if [[ $wrong == planted || $wrong == *.fault ]]; then
     if [[ $wrong == *.fault ]]; then fault=("$top/iocsq/$wrong"); fi
-    source=$program.planted.c wrong=0
-    "$top/iocsq/examples/plant" "$(basename "$driver")" "${fault[@]}" >"$source" || return 1
+    source=$folder/$numbered.c wrong=0
+    mkdir -p "$folder" && "$top/iocsq/examples/plant" "$(basename "$1")" "${fault[@]}" >"$source" || return 1
   fi
-  objects=$(iocsq_objects "$@") || return 1
-  if [[ -f $driver.test.c ]]; then test=("$driver.test.c"); fi
+  shift 2
   mapfile -t sees < <(iocsq_sees "$@")
-  "$@" -std=c11 "${warnings[@]}" "${sees[@]}" -DWRONG="$wrong" -I"$top/include/wdk" -c "$source" -o "$program.driver.o" &&
-    "$@" -std=c11 "${warnings[@]}" -DWRONG="$wrong" -I"$top/include" "$objects"/*.o "$objects/tests/${TEST:-storm}.o" "${test[@]}" \
-      "$program.driver.o" "${library[@]:-$objects/libcsq_plain.a}" \
-      "${wraps[@]}" -pthread -o "$program"
+  driver_objects=("$folder/$numbered.o")
+  make_once "${driver_objects[0]}" "$@" -std=c11 "${warnings[@]}" "${sees[@]}" -DWRONG="$wrong" -I"$top/include/wdk" \
+    -c "$source" || return 1
+  if [[ ! -f $policy ]]; then return; fi
+  if grep -q WRONG "$policy"; then name=$numbered; fi
+  driver_objects+=("$folder/$name.test.o")
+  make_once "${driver_objects[1]}" "$@" -std=c11 "${warnings[@]}" -DWRONG="$wrong" -I"$top/include" -c "$policy"
+}
+
+# Links the storm with a driver: iocsq_build PROGRAM DRIVER WRONG COMPILER FLAG.. In its place another test of the
+# folder `tests`: TEST=patient iocsq_build PROGRAM .. DRIVER is a file below iocsq without its ending. WRONG is the
+# number of the place where it is wrong, 0 for none, `planted` for an example's own fault, or the file of another below
+# iocsq.
+iocsq_build() {
+  local driver_objects
+  compile_driver "${@:2}" && iocsq_link "$1" "${TEST:-storm}" "${driver_objects[@]}" -- "${@:4}"
 }

@@ -1,51 +1,31 @@
 /* Drivers: how one is loaded and unloaded, and what ends a run whose driver uses a bad address or
  * takes too long. */
-#define _GNU_SOURCE
 #include "internal.h"
 
-#include <signal.h>
 #include <stdlib.h>
-#include <unistd.h>
 
 /* ---- What ends a run ---- */
-/* The text is written first, since nothing else is safe in a signal's handler. */
-static struct sigaction before_segv, before_bus; /* a sanitizer's, or the default */
-
-static void report_bad_address(int signal_number) {
-    const struct sigaction *before = signal_number == SIGBUS ? &before_bus : &before_segv;
+void iocsq_report_bad_address(void) {
     char text[80];
-    iocsq_ask_for_policy();
-    sigaction(signal_number, before, NULL);
-    if (before->sa_handler != SIG_DFL) {
-        return; /* to the bad address again, for the sanitizer's own report */
+    snprintf(text, sizeof text, "iocsq: t%u: the driver used a bad address\n", iocsq_thread());
+    iocsq_write_error(text);
+    if (iocsq_sent_unbuffered()) {
+        iocsq_write_error("  A read or write had no system buffer: its device's Flags have neither "
+                          "DO_BUFFERED_IO nor DO_DIRECT_IO.\n");
     }
-    int length =
-        snprintf(text, sizeof text, "iocsq: t%u: the driver used a bad address\n", iocsq_thread());
-    if (write(STDERR_FILENO, text, (size_t)length) > 0) {
-        if (iocsq_sent_unbuffered()) {
-            static const char hint[] = "  A read or write had no system buffer: its device's Flags "
-                                       "have neither DO_BUFFERED_IO nor DO_DIRECT_IO.\n";
-            length = (int)write(STDERR_FILENO, hint, sizeof hint - 1);
-        }
-        iocsq_show_places(true);
-        iocsq_show_last_calls();
-    }
-    raise(signal_number);
+    iocsq_show_places(true);
+    iocsq_show_last_calls();
 }
 
-static void report_time_over(int signal_number) {
-    static const char text[] =
-        "iocsq: the run takes longer than it may: a thread waits for ever, or goes round.\n";
-    signal(signal_number, SIG_DFL);
-    if (write(STDERR_FILENO, text, sizeof text - 1) > 0) {
-        iocsq_show_last_calls();
-    }
-    _exit(IOCSQ_DISAGREES);
+void iocsq_report_time_over(void) {
+    iocsq_write_error("iocsq: the run takes longer than it may: a thread waits for ever, or goes "
+                      "round.\n");
+    iocsq_show_last_calls();
+    iocsq_exit(IOCSQ_DISAGREES);
 }
 
 VOID IocsqLimit(ULONG Seconds) {
-    signal(SIGALRM, report_time_over);
-    alarm(Seconds);
+    iocsq_limit(Seconds);
 }
 
 /* -fsanitize=undefined calls this before its own report, of a member of null, say. */
@@ -54,22 +34,11 @@ void __ubsan_on_report(void) {
     iocsq_ask_for_policy();
 }
 
-/* The bounded mode puts the program's variables back between runs in one process, and the handler
- * stays: it isn't its own predecessor, to which it would return for ever. */
-static void catch_signal(int signal_number, struct sigaction *before) {
-    struct sigaction action = { .sa_handler = report_bad_address }, was;
-    if (sigaction(signal_number, &action, &was) == 0 && was.sa_handler != report_bad_address) {
-        *before = was;
-    }
-}
-
 static void catch_bad_addresses(void) {
     static bool caught;
     if (!caught) {
         caught = true;
-        iocsq_prepare_places();
-        catch_signal(SIGSEGV, &before_segv);
-        catch_signal(SIGBUS, &before_bus);
+        iocsq_catch_bad_addresses();
     }
 }
 

@@ -2,6 +2,8 @@
 #include "internal.h"
 
 enum { THREADS = 1024, HANDLES = 64 };
+enum { YIELDS = 32, PAUSE = 20 }; /* a thread that runs freely and waits yields this often, then
+                                   * pauses for microseconds, since the lock's owner may sleep */
 #define UNTAKEN 0x6C6F636Bu /* the word of a lock that nobody has, once it is initialized */
 
 uint32_t iocsq_lock_count(void) {
@@ -63,7 +65,8 @@ uint32_t iocsq_end_watch(struct iocsq_watch before) {
 }
 
 /* ---- Words that are locks: UNTAKEN, or the number of the thread that has it ---- */
-static ULONG_PTR owner_of(const ULONG_PTR *word) {
+/* A thread that reads it touches the word, or waits for it. */
+IOCSQ_COMMUTES static ULONG_PTR owner_of(const ULONG_PTR *word) {
     return __atomic_load_n(word, __ATOMIC_SEQ_CST);
 }
 
@@ -88,11 +91,12 @@ static ULONG_PTR known_owner(const ULONG_PTR *word, const char *what) {
 static const ULONG_PTR *waited_for[THREADS]; /* in turns: the word that each thread waits for, by
                                               * the thread's number, if that is so small */
 
-static const ULONG_PTR *awaited_by(ULONG_PTR thread) {
+/* In which order two threads begin to wait is the same to a deadlock: the last one finds it. */
+IOCSQ_COMMUTES static const ULONG_PTR *awaited_by(ULONG_PTR thread) {
     return thread < THREADS ? waited_for[thread] : NULL;
 }
 
-static void note_wait(ULONG_PTR thread, const ULONG_PTR *word) {
+IOCSQ_COMMUTES static void note_wait(ULONG_PTR thread, const ULONG_PTR *word) {
     if (thread < THREADS) {
         waited_for[thread] = word;
     }
@@ -114,9 +118,10 @@ static void check_circle(const ULONG_PTR *word, ULONG_PTR mine, const char *what
     }
 }
 
-static void wait_for_word(ULONG_PTR *word, ULONG_PTR mine, const char *what) {
+/* `before`: how often it has found the word taken before. */
+static void wait_for_word(ULONG_PTR *word, ULONG_PTR mine, const char *what, uint32_t before) {
     if (!iocsq_in_turns()) {
-        iocsq_yield();
+        before < YIELDS ? iocsq_yield() : IocsqPause(PAUSE);
         return;
     }
     check_circle(word, mine, what);
@@ -126,12 +131,13 @@ static void wait_for_word(ULONG_PTR *word, ULONG_PTR mine, const char *what) {
 }
 
 static bool try_word(ULONG_PTR *word, const char *what) {
-    ULONG_PTR expected = UNTAKEN, mine = iocsq_thread();
-    if (known_owner(word, what) == mine) {
+    ULONG_PTR owner = known_owner(word, what), mine = iocsq_thread();
+    if (owner == mine) {
         iocsq_disagree(NULL, "%s is taken again by the thread that has it", what);
     }
-    bool taken =
-        __atomic_compare_exchange_n(word, &expected, mine, 0, __ATOMIC_SEQ_CST, __ATOMIC_SEQ_CST);
+    bool taken = owner == UNTAKEN && __atomic_compare_exchange_n(word, &owner, mine, 0,
+                                                                 __ATOMIC_SEQ_CST,
+                                                                 __ATOMIC_SEQ_CST);
     if (taken) {
         iocsq_note_lock(word);
         iocsq_touch(word, IOCSQ_SYNC);
@@ -142,9 +148,10 @@ static bool try_word(ULONG_PTR *word, const char *what) {
 /* Whether it is taken: at once, or if `waits` in the end. */
 static bool take_word(ULONG_PTR *word, const char *what, bool waits) {
     bool taken;
+    uint32_t tries = 0;
     iocsq_point();
     while (!(taken = try_word(word, what)) && waits) {
-        wait_for_word(word, iocsq_thread(), what);
+        wait_for_word(word, iocsq_thread(), what, tries++);
     }
     if (!taken) {
         iocsq_touch(word, IOCSQ_LOOKS);
@@ -239,8 +246,9 @@ static struct {
     uint32_t thread;
 } handles[HANDLES]; /* under the state's lock */
 
-/* The place of a handle in use; null: the first free one. HANDLES: there is none. */
-static uint32_t place_of(const KLOCK_QUEUE_HANDLE *handle) {
+/* The place of a handle in use; null: the first free one. HANDLES: there is none. It is the same
+ * where one stands. */
+IOCSQ_COMMUTES static uint32_t place_of(const KLOCK_QUEUE_HANDLE *handle) {
     uint32_t at = 0;
     while (at < HANDLES && handles[at].handle != handle) {
         at++;
@@ -248,7 +256,7 @@ static uint32_t place_of(const KLOCK_QUEUE_HANDLE *handle) {
     return at;
 }
 
-static void begin_handle(PKLOCK_QUEUE_HANDLE handle) {
+IOCSQ_ADDS static void begin_handle(PKLOCK_QUEUE_HANDLE handle) {
     iocsq_lock_state_for(handle, IOCSQ_CHANGES);
     uint32_t used = place_of(handle), at = place_of(NULL);
     if (used < HANDLES) {
@@ -265,7 +273,7 @@ static void begin_handle(PKLOCK_QUEUE_HANDLE handle) {
     iocsq_unlock_state();
 }
 
-static void end_handle(const KLOCK_QUEUE_HANDLE *handle) {
+IOCSQ_ADDS static void end_handle(const KLOCK_QUEUE_HANDLE *handle) {
     iocsq_lock_state_for(handle, IOCSQ_CHANGES);
     uint32_t at = place_of(handle);
     if (at == HANDLES || handles[at].thread != iocsq_thread()) {

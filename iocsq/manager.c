@@ -111,7 +111,7 @@ static bool is_transfer(UCHAR major) {
 }
 
 static IOCSQ_REQUEST *send(struct iocsq_irp *i, PDEVICE_OBJECT device) {
-    i->sent = iocsq_now();
+    iocsq_note_sent(i);
     show(i);
     iocsq_log_sent(i, "dispatch(irp %u, major %02x, file %u)", i->index, i->major,
                    iocsq_file_number(i->file));

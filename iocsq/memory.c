@@ -40,6 +40,34 @@ static struct allocation **bucket_of(const void *at) {
     return &allocations[((uintptr_t)at >> 4) % BUCKETS];
 }
 
+/* In which order they stand in a bucket is the same. */
+IOCSQ_ADDS static void add_allocation(struct allocation *made) {
+    struct allocation **bucket = bucket_of(made->at);
+    made->next = *bucket;
+    *bucket = made;
+}
+
+/* The one at this address, which is there no more; null: none was. */
+IOCSQ_ADDS static struct allocation *remove_allocation(const void *at) {
+    struct allocation **link = bucket_of(at);
+    while (*link && (*link)->at != at) {
+        link = &(*link)->next;
+    }
+    struct allocation *found = *link;
+    if (found) {
+        *link = found->next;
+    }
+    return found;
+}
+
+/* Whether something is paged; of what isn't, that it comes and goes is the same. */
+static void count_paged(bool paged, int change) {
+    iocsq_touch(&paged_count, paged ? IOCSQ_CHANGES : IOCSQ_LOOKS);
+    if (paged) {
+        paged_count += (uint32_t)change;
+    }
+}
+
 static void *take_memory(size_t size, ULONG tag, bool paged) {
     struct allocation *made = malloc(sizeof *made);
     void *at = made ? malloc(size) : NULL;
@@ -48,12 +76,11 @@ static void *take_memory(size_t size, ULONG tag, bool paged) {
         return NULL;
     }
     iocsq_lock_state_for(at, IOCSQ_CHANGES);
-    iocsq_touch(&paged_count, paged ? IOCSQ_CHANGES : IOCSQ_LOOKS);
     iocsq_begin_memory(at, size);
-    struct allocation allocation = { *bucket_of(at), at, size, tag, paged };
+    struct allocation allocation = { NULL, at, size, tag, paged };
     *made = allocation;
-    *bucket_of(at) = made;
-    paged_count += paged;
+    add_allocation(made);
+    count_paged(paged, 1);
     iocsq_unlock_state();
     return at;
 }
@@ -94,15 +121,10 @@ PVOID NTAPI ExAllocatePool2(POOL_FLAGS Flags, SIZE_T NumberOfBytes, ULONG Tag) {
 }
 
 static struct allocation *take_allocation(const void *at) {
-    struct allocation **link = bucket_of(at);
     iocsq_lock_state_for(at, IOCSQ_CHANGES);
-    while (*link && (*link)->at != at) {
-        link = &(*link)->next;
-    }
-    struct allocation *found = *link;
+    struct allocation *found = remove_allocation(at);
     if (found) {
-        *link = found->next;
-        paged_count -= found->paged;
+        count_paged(found->paged, -1);
     }
     iocsq_unlock_state();
     return found;
@@ -167,7 +189,7 @@ static void expect_untouched(const struct allocation *of) {
 }
 
 /* The memory goes in the place of the oldest. */
-static void keep(struct allocation freed) {
+IOCSQ_ADDS static void keep(struct allocation freed) {
     if (freed.size > KEPT_BYTES) {
         free(freed.at);
         return;

@@ -11,9 +11,17 @@ BOOLEAN IocsqNoneWaits(PIRP Irp) {
     return FALSE;
 }
 
+/* In the bounded mode the time in which a request is to end begins only as its end is expected:
+ * otherwise each request would have to look at the clock as it is sent. */
+void iocsq_note_sent(struct iocsq_irp *i) {
+    if (!iocsq_is_bounded()) {
+        i->sent = iocsq_now();
+    }
+}
+
 /* The rest of the time in which a request is to end, in milliseconds. */
 static ULONG rest_of(const struct iocsq_irp *i, ULONG within) {
-    uint64_t passed = (iocsq_now() - i->sent) / MILLISECOND;
+    uint64_t passed = iocsq_is_bounded() ? 0 : (iocsq_now() - i->sent) / MILLISECOND;
     return passed < within ? (ULONG)(within - passed) : 1;
 }
 

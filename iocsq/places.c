@@ -2,54 +2,27 @@
  * addr2line of binutils reads them from the program; and the callback that is to blame, if one is,
  * since that has returned. Nothing is printed where the program has no such lines (-g), or where
  * there is no addr2line. */
-#define _GNU_SOURCE
 #include "internal.h"
 
-#include <execinfo.h>
-#include <link.h>
 #include <stdlib.h>
-#include <unistd.h>
 
 enum { FRAMES = 48, SHOWN = 6, TEXT = 512 };
 
-/* The program itself is the first that is named. */
-static int note_program(struct dl_phdr_info *info, size_t size, void *base) {
-    (void)size;
-    *(uintptr_t *)base = info->dlpi_addr;
-    return 1;
-}
-
-extern char __executable_start[], etext[];
-
-static bool is_in_program(const void *at) {
-    return (uintptr_t)at >= (uintptr_t)__executable_start && (uintptr_t)at < (uintptr_t)etext;
-}
-
-/* The command that names the places of the addresses which are added. */
-static void begin_command(char *command, size_t size) {
-    snprintf(command, size, "2>/dev/null addr2line -a -f -i -e /proc/%ld/exe", (long)getpid());
-}
-
-static void add_address(char *command, size_t size, uintptr_t address) {
-    size_t used = strlen(command);
-    uintptr_t base = 0;
-    dl_iterate_phdr(note_program, &base);
-    snprintf(command + used, size - used, " 0x%lx", (unsigned long)(address - base));
-}
-
-/* That of the stack. An address there is that of the instruction after a call, but for the one at
- * which a signal came. */
-static void make_command(char *command, size_t size, bool in_signal) {
+/* Begins to read the places of this thread's stack. An address there is that of the instruction
+ * after a call, but for the one at which a signal came. */
+static FILE *begin_stack(bool in_signal) {
     void *here[FRAMES];
+    uintptr_t addresses[FRAMES];
+    size_t found = 0;
     void *const *frames = iocsq_own.frames ? iocsq_own.frames : here;
-    int count = iocsq_own.frames ? iocsq_own.frame_count : backtrace(here, FRAMES);
-    begin_command(command, size);
+    int count = iocsq_own.frames ? iocsq_own.frame_count : iocsq_frames(here, FRAMES);
     for (int at = 1; at < count; at++) {
-        bool is_exact = in_signal && !is_in_program(frames[at - 1]);
-        if (is_in_program(frames[at])) {
-            add_address(command, size, (uintptr_t)frames[at] - !is_exact);
+        bool is_exact = in_signal && !iocsq_is_in_program(frames[at - 1]);
+        if (iocsq_is_in_program(frames[at])) {
+            addresses[found++] = (uintptr_t)frames[at] - !is_exact;
         }
     }
+    return iocsq_begin_addr2line(addresses, found);
 }
 
 /* Whether a file is of the checker, of its programs or of its headers: all that isn't the
@@ -110,41 +83,28 @@ static void print_place(const char *how, const struct place *place) {
 }
 
 static void print_stack(bool in_signal) {
-    char command[FRAMES * 24];
     struct place place;
     uint32_t shown = 0;
-    make_command(command, sizeof command, in_signal);
-    FILE *from = popen(command, "r");
+    FILE *from = begin_stack(in_signal);
     while (from && shown < SHOWN && read_place(from, &place)) {
         print_place(shown++ ? "called by" : "at", &place);
     }
-    if (from) {
-        pclose(from);
-    }
+    iocsq_end_addr2line(from);
 }
 
 /* Prints the place of an address. Of several the first is of what is expanded there: the place of a
  * call; the last is that of the function. */
 static void print_address(const char *how, uintptr_t address, bool is_call) {
-    char command[FRAMES * 24];
     struct place place;
     bool found = false;
-    begin_command(command, sizeof command);
-    add_address(command, sizeof command, address);
-    FILE *from = popen(command, "r");
+    FILE *from = iocsq_begin_addr2line(&address, 1);
     while (from && !(found && is_call) && read_place(from, &place)) {
         found = true;
     }
     if (found) {
         print_place(how, &place);
     }
-    if (from) {
-        pclose(from);
-    }
-}
-
-int iocsq_frames(void **frames, int most) {
-    return backtrace(frames, most);
+    iocsq_end_addr2line(from);
 }
 
 void iocsq_show_function(const char *how, uintptr_t address) {
@@ -162,10 +122,4 @@ void iocsq_show_places(bool in_signal) {
     if (iocsq_own.blamed) {
         iocsq_show_function("the callback at", iocsq_own.blamed);
     }
-}
-
-/* The first backtrace loads a library, which isn't for a signal's handler. */
-void iocsq_prepare_places(void) {
-    void *frame;
-    backtrace(&frame, 1);
 }

@@ -38,9 +38,9 @@ void iocsq_read_plan(const char *name, struct iocsq_plan *made) {
         p->depth <= IOCSQ_DEPTH && p->steps > 0) {
         at += used;
     }
-    unsigned long place;
-    while (sscanf(at, "at:%lx,%n", &place, &used) == 1) {
-        iocsq_promote(place);
+    unsigned long long place;
+    while (sscanf(at, "at:%llx,%n", &place, &used) == 1) {
+        iocsq_promote((uintptr_t)place);
         at += used;
     }
     while (*at && made->count < IOCSQ_PLANNED &&

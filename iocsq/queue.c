@@ -23,9 +23,14 @@ static void check_lock(struct iocsq_queue *q, const struct held *held) {
     }
 }
 
+/* What another thread writes there is never this one's number. */
+IOCSQ_COMMUTES static bool is_inside(const struct iocsq_queue *q) {
+    return q->inside == iocsq_thread();
+}
+
 static struct held enter(struct iocsq_queue *q) {
     struct held held = { .irql_before = KeGetCurrentIrql(), .locks_before = iocsq_lock_count() };
-    if (q->inside == iocsq_thread()) {
+    if (is_inside(q)) {
         iocsq_disagree(NULL, "a call of the queue from inside one of its callbacks");
     }
     iocsq_point();
@@ -51,7 +56,9 @@ static void leave(struct iocsq_queue *q, struct held held, bool last) {
     iocsq_touch(q, IOCSQ_CHANGES);
     iocsq_touch(&q->calls, IOCSQ_LOOKS);
     q->inside = 0;
-    q->calls -= last;
+    if (last) {
+        q->calls--;
+    }
     csq->CsqReleaseLock(csq, held.irql);
     if (iocsq_lock_count() != held.locks_before) {
         iocsq_disagree(NULL, "CsqReleaseLock left a lock taken");

@@ -6,15 +6,15 @@
 static struct iocsq_queue *queues[IOCSQ_QUEUES]; /* none is freed before the end, since a canceller
                                                   * may look at it */
 static uint32_t queue_count;
-static pthread_mutex_t queues_mutex = PTHREAD_MUTEX_INITIALIZER; /* of the two, and of each queue's
+static struct iocsq_mutex queues_mutex = IOCSQ_MUTEX; /* of the two, and of each queue's
                                                                   * csq */
 static IOCSQ_POLICY first_policy; /* of queues that are initialized from now on */
 
 struct iocsq_queue *iocsq_queue_at(uint32_t index) {
     iocsq_touch(&queue_count, IOCSQ_LOOKS);
-    pthread_mutex_lock(&queues_mutex);
+    iocsq_lock(&queues_mutex);
     struct iocsq_queue *q = queues[index];
-    pthread_mutex_unlock(&queues_mutex);
+    iocsq_unlock(&queues_mutex);
     return q;
 }
 
@@ -29,9 +29,9 @@ static struct iocsq_queue *find(const IO_CSQ *csq) {
 
 struct iocsq_queue *iocsq_queue_of(PIO_CSQ csq) {
     iocsq_touch(&queue_count, IOCSQ_LOOKS);
-    pthread_mutex_lock(&queues_mutex);
+    iocsq_lock(&queues_mutex);
     struct iocsq_queue *found = find(csq);
-    pthread_mutex_unlock(&queues_mutex);
+    iocsq_unlock(&queues_mutex);
     if (!found || csq->ReservePointer != found) {
         iocsq_disagree(NULL, "a call of an IO_CSQ that was not initialized, or was overwritten");
     }
@@ -69,13 +69,13 @@ static void forget(struct iocsq_queue *q, const char *what, const char *its) {
 
 static void forget_in(const void *from, size_t size, const char *what, const char *its) {
     iocsq_touch(&queue_count, IOCSQ_LOOKS);
-    pthread_mutex_lock(&queues_mutex);
+    iocsq_lock(&queues_mutex);
     for (uint32_t at = 0; at < queue_count; at++) {
         if (queues[at]->csq && (uintptr_t)queues[at]->csq - (uintptr_t)from < size) {
             forget(queues[at], what, its);
         }
     }
-    pthread_mutex_unlock(&queues_mutex);
+    iocsq_unlock(&queues_mutex);
 }
 
 void iocsq_end_queues_in(const void *from, size_t size, const char *what) {
@@ -93,11 +93,11 @@ void iocsq_end_queues(void) {
 struct iocsq_irp *iocsq_left_in_queues(uint32_t file) {
     struct iocsq_irp *left = NULL;
     iocsq_touch(&queue_count, IOCSQ_LOOKS);
-    pthread_mutex_lock(&queues_mutex);
+    iocsq_lock(&queues_mutex);
     for (uint32_t at = 0; at < queue_count && !left; at++) {
         left = iocsq_reference_left(&queues[at]->reference, file);
     }
-    pthread_mutex_unlock(&queues_mutex);
+    iocsq_unlock(&queues_mutex);
     return left;
 }
 
@@ -132,12 +132,12 @@ static struct iocsq_queue *find_forgotten(void) {
 /* It may have been initialized before, which does no harm if nothing is in it: then only its
  * callbacks of now count. */
 static void end_before(PIO_CSQ csq, const char *what) {
-    pthread_mutex_lock(&queues_mutex);
+    iocsq_lock(&queues_mutex);
     const struct iocsq_queue *before = find(csq);
     if (before && !before->used) {
         iocsq_take_back_kind(before->kind);
     }
-    pthread_mutex_unlock(&queues_mutex);
+    iocsq_unlock(&queues_mutex);
     forget_in(csq, sizeof *csq, what, "its queue");
 }
 
@@ -147,7 +147,7 @@ static void begin(PIO_CSQ csq) {
                         ? "IoCsqInitializeEx of an IO_CSQ that was initialized before"
                         : "IoCsqInitialize of an IO_CSQ that was initialized before");
     iocsq_touch(&queue_count, IOCSQ_CHANGES);
-    pthread_mutex_lock(&queues_mutex);
+    iocsq_lock(&queues_mutex);
     struct iocsq_queue *q = find_forgotten();
     if (!q) {
         q = new_queue();
@@ -160,7 +160,7 @@ static void begin(PIO_CSQ csq) {
     q->inside = 0;
     q->lock = NULL;
     csq->ReservePointer = q;
-    pthread_mutex_unlock(&queues_mutex);
+    iocsq_unlock(&queues_mutex);
 }
 
 static NTSTATUS initialize(PIO_CSQ csq, IO_CSQ all) {
@@ -208,9 +208,9 @@ VOID IocsqSetPolicy(PIO_CSQ Csq, const IOCSQ_POLICY *Policy) {
 }
 
 BOOLEAN IocsqCovered(VOID) {
-    pthread_mutex_lock(&queues_mutex);
+    iocsq_lock(&queues_mutex);
     bool covered = iocsq_is_covered();
-    pthread_mutex_unlock(&queues_mutex);
+    iocsq_unlock(&queues_mutex);
     return covered;
 }
 

@@ -11,18 +11,10 @@
  * what follows from either order is tried. */
 #define _GNU_SOURCE
 #include "internal.h"
+#include "keys.h"
 
-#include <sys/mman.h>
 
-enum {
-    CELLS = 1 << 16,
-    RECORDS = 12,
-    LOOKS = 64,
-    PROMOTED = 64,
-    CELL = 8,
-    WHOLE = 4096,
-    FRAMES = 48
-};
+enum { RECORDS = 12, PROMOTED = 64, CELL = 8, WHOLE = 4096, FRAMES = 48 };
 enum level { NONE, CHECKS, POINTS, UNREPORTED };
 
 struct record {
@@ -33,10 +25,9 @@ struct record {
 };
 /* The accesses to eight bytes. */
 struct cell {
-    uint64_t at;
-    uint32_t run, count;
+    uint32_t count;
     uint8_t written, rewritten; /* bytes, once and more than once, since others used them */
-    struct record *records; /* RECORDS of them */
+    struct record records[RECORDS];
 };
 /* The first of a run. It is reported at the next point of its thread, and not in the middle of
  * IoCompleteRequest: so another report comes before, if what the driver does next is wrong in
@@ -56,9 +47,8 @@ struct races {
         uintptr_t place;
         uint32_t run; /* the last in which the driver came to it */
     } promoted[PROMOTED];
-    struct cell cells[CELLS];
-    uint32_t run, used; /* of the records, which lie side by side, so that a run has few pages */
-    struct record records[CELLS][RECORDS];
+    struct iocsq_keys keys; /* of cells */
+    struct cell cells[IOCSQ_KEYS];
 };
 static struct races *races; /* null: nothing is checked */
 static ULONG level;
@@ -77,44 +67,20 @@ void iocsq_begin_races(void) {
         return;
     }
     iocsq_begin_traces();
-    races = mmap(NULL, sizeof *races, PROT_READ | PROT_WRITE,
-                 MAP_PRIVATE | MAP_ANONYMOUS | MAP_NORESERVE, -1, 0);
-    if (races == MAP_FAILED) {
-        iocsq_fail("no memory for the driver's accesses");
-    }
+    races = iocsq_map(sizeof *races, "no memory for the driver's accesses");
 }
 
 /* ---- Cells ---- */
-/* For the next cell of this run. */
-static struct record *take_records(void) {
-    if (races->run != iocsq_run_number()) {
-        races->run = iocsq_run_number();
-        races->used = 0;
-    }
-    return races->records[races->used++];
-}
-
 /* Null: there is none, or too many: then this one isn't watched. */
 static struct cell *cell_at(uint64_t at, bool makes) {
-    uint64_t hash = iocsq_mix(at, 11);
-    for (uint32_t look = 0; look < LOOKS; look++) {
-        struct cell *c = &races->cells[(hash + look) % CELLS];
-        if (c->run == iocsq_run_number() && c->at == at) {
-            return c;
-        }
-        if (c->run != iocsq_run_number() && makes) {
-            c->at = at;
-            c->run = iocsq_run_number();
-            c->count = 0;
-            c->written = c->rewritten = 0;
-            c->records = take_records();
-            return c;
-        }
-        if (c->run != iocsq_run_number()) {
-            return NULL;
-        }
+    uint32_t before = races->keys.count;
+    uint32_t number = iocsq_number_of_key(&races->keys, at, iocsq_mix(at, 11), makes);
+    struct cell *c = &races->cells[number];
+    if (races->keys.count > before) {
+        c->count = 0;
+        c->written = c->rewritten = 0;
     }
-    return NULL;
+    return number < IOCSQ_FIRST_NUMBER ? NULL : c;
 }
 
 /* The bytes of a range that lie in the cell of this number. */
@@ -126,10 +92,8 @@ static uint8_t bytes_in(uint64_t cell, uint64_t from, uint64_t to) {
 }
 
 /* ---- Places that are points ---- */
-extern char __executable_start[];
-
 static uintptr_t offset_of(const void *place) {
-    return (uintptr_t)place - (uintptr_t)__executable_start;
+    return (uintptr_t)place - (uintptr_t)IOCSQ_PROGRAM;
 }
 
 /* Null: it isn't one. */
@@ -236,6 +200,7 @@ void iocsq_forget_race(void) {
     if (races) {
         races->found.text[0] = '\0';
         races->found.thread = 0;
+        iocsq_forget_keys(&races->keys);
     }
 }
 

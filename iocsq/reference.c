@@ -30,10 +30,10 @@ uint32_t iocsq_pass_of_thread(void) {
 
 static uint32_t lend_pass(struct iocsq_reference *r) {
     uint32_t first = iocsq_pass_of_thread(), at = first;
-    while (pthread_mutex_trylock(&r->passes[at].mutex) != 0) {
+    while (!iocsq_try_lock(&r->passes[at].mutex)) {
         at = (at + 1) % IOCSQ_PASSES;
         if (at == first) {
-            pthread_mutex_lock(&r->passes[at].mutex);
+            iocsq_lock(&r->passes[at].mutex);
             break;
         }
     }
@@ -41,11 +41,11 @@ static uint32_t lend_pass(struct iocsq_reference *r) {
 }
 
 static void lend_this_pass(struct iocsq_reference *r, uint32_t pass) {
-    pthread_mutex_lock(&r->passes[pass].mutex);
+    iocsq_lock(&r->passes[pass].mutex);
 }
 
 static void return_pass(struct iocsq_reference *r, uint32_t pass) {
-    pthread_mutex_unlock(&r->passes[pass].mutex);
+    iocsq_unlock(&r->passes[pass].mutex);
 }
 
 /* ---- Beginning and end ---- */
@@ -57,10 +57,10 @@ void iocsq_reference_begin(struct iocsq_reference *r, uint32_t index) {
                                    .first_life = 0,
                                    .list = CSQ_CHAINS };
     r->index = index;
-    pthread_mutex_init(&r->mutex, NULL);
+    iocsq_begin_mutex(&r->mutex);
     expect(csq_new(&r->queue, &size), CSQ_OK, "csq_new");
     for (uint32_t at = 0; at < IOCSQ_PASSES; at++) {
-        pthread_mutex_init(&r->passes[at].mutex, NULL);
+        iocsq_begin_mutex(&r->passes[at].mutex);
         expect(csq_take_pass(&r->queue, &r->passes[at].pass), CSQ_OK, "csq_take_pass");
     }
     for (r->free_count = 0; r->free_count < IOCSQ_SLOTS; r->free_count++) {
@@ -83,9 +83,9 @@ void iocsq_reference_end(struct iocsq_reference *r) {
 
 bool iocsq_reference_is_idle(struct iocsq_reference *r) {
     iocsq_touch(&r->free_count, IOCSQ_CHANGES);
-    pthread_mutex_lock(&r->mutex);
+    iocsq_lock(&r->mutex);
     bool idle = r->free_count == IOCSQ_SLOTS;
-    pthread_mutex_unlock(&r->mutex);
+    iocsq_unlock(&r->mutex);
     return idle;
 }
 
@@ -93,9 +93,9 @@ bool iocsq_reference_is_idle(struct iocsq_reference *r) {
 uint32_t iocsq_reference_next(struct iocsq_reference *r, uint32_t after, uint32_t file) {
     iocsq_touch(r, IOCSQ_LOOKS);
     struct csq_irp next = { CSQ_ANY, 0 };
-    pthread_mutex_lock(&r->mutex);
+    iocsq_lock(&r->mutex);
     uint32_t code = csq_peek_next(&r->queue, after, file, &next);
-    pthread_mutex_unlock(&r->mutex);
+    iocsq_unlock(&r->mutex);
     return code == CSQ_OK ? next.irp : CSQ_ANY;
 }
 
@@ -103,9 +103,9 @@ uint32_t iocsq_reference_judge(struct iocsq_reference *r, uint32_t after, uint32
                                uint32_t answer, uint32_t *skipped) {
     iocsq_touch(r, IOCSQ_LOOKS);
     uint32_t verdict = CSQ_PEEK_SKIPS; /* of none, where `after` has gone meanwhile */
-    pthread_mutex_lock(&r->mutex);
+    iocsq_lock(&r->mutex);
     uint32_t code = csq_judge_peek(&r->queue, after, file, answer, &verdict, skipped);
-    pthread_mutex_unlock(&r->mutex);
+    iocsq_unlock(&r->mutex);
     if (code != CSQ_NOT_LISTED) {
         expect(code, CSQ_OK, "csq_judge_peek");
     }
@@ -115,9 +115,9 @@ uint32_t iocsq_reference_judge(struct iocsq_reference *r, uint32_t after, uint32
 uint32_t iocsq_reference_len(struct iocsq_reference *r) {
     iocsq_touch(r, IOCSQ_LOOKS);
     uint32_t len = 0;
-    pthread_mutex_lock(&r->mutex);
+    iocsq_lock(&r->mutex);
     expect(csq_len(&r->queue, &len), CSQ_OK, "csq_len");
-    pthread_mutex_unlock(&r->mutex);
+    iocsq_unlock(&r->mutex);
     return len;
 }
 
@@ -125,8 +125,11 @@ uint32_t iocsq_reference_len(struct iocsq_reference *r) {
  * cancelled. */
 static size_t excused_in(const struct iocsq_reference *r, uint32_t *slots) {
     size_t count = 0;
-    for (uint32_t slot = 0; slot < IOCSQ_SLOTS; slot++) {
+    for (uint32_t slot = 0; slot < r->used_slots; slot++) {
         const struct iocsq_irp *i = r->by_slot[slot];
+        if (i) {
+            iocsq_touch(i, IOCSQ_LOOKS);
+        }
         if (i && i->place == IOCSQ_LISTED && (i->late || i->irp.Cancel)) {
             slots[count++] = slot;
         }
@@ -137,11 +140,11 @@ static size_t excused_in(const struct iocsq_reference *r, uint32_t *slots) {
 struct iocsq_irp *iocsq_reference_left(struct iocsq_reference *r, uint32_t file) {
     iocsq_touch(r, IOCSQ_CHANGES);
     uint32_t excused[IOCSQ_SLOTS], left = CSQ_ANY;
-    pthread_mutex_lock(&r->mutex);
+    iocsq_lock(&r->mutex);
     size_t count = excused_in(r, excused);
     expect(csq_judge_cleanup(&r->queue, file, excused, count, &left), CSQ_OK, "csq_judge_cleanup");
     struct iocsq_irp *i = left == CSQ_ANY ? NULL : r->by_slot[left];
-    pthread_mutex_unlock(&r->mutex);
+    iocsq_unlock(&r->mutex);
     return i;
 }
 
@@ -158,19 +161,32 @@ uint32_t iocsq_slot_in(const struct iocsq_reference *r, const struct iocsq_irp *
 }
 
 /* ---- Stays ---- */
-void iocsq_reference_join(struct iocsq_reference *r, struct iocsq_irp *i) {
-    iocsq_touch(i, IOCSQ_CHANGES | IOCSQ_RELEASES);
+/* It is the same which slot an IRP has; only whether all are free is not. */
+IOCSQ_ADDS static uint32_t take_slot(struct iocsq_reference *r, struct iocsq_irp *i) {
     iocsq_touch(&r->free_count, IOCSQ_LOOKS);
-    pthread_mutex_lock(&r->mutex);
     if (r->free_count == 0) {
         iocsq_fail("more than %u IRPs in one queue", (unsigned)IOCSQ_SLOTS);
     }
     uint32_t slot = r->free_slots[--r->free_count];
     r->by_slot[slot] = i;
+    r->used_slots = slot < r->used_slots ? r->used_slots : slot + 1;
+    return slot;
+}
+
+IOCSQ_ADDS static void give_slot(struct iocsq_reference *r, uint32_t slot) {
+    iocsq_touch(&r->free_count, IOCSQ_LOOKS);
+    r->by_slot[slot] = NULL;
+    r->free_slots[r->free_count++] = slot;
+}
+
+void iocsq_reference_join(struct iocsq_reference *r, struct iocsq_irp *i) {
+    iocsq_touch(i, IOCSQ_CHANGES | IOCSQ_RELEASES);
+    iocsq_lock(&r->mutex);
+    uint32_t slot = take_slot(r, i);
     iocsq_begin_steps(i);
     iocsq_hand_end(i, false);
     i->stay = stay_at(r, slot, r->lives[slot]);
-    pthread_mutex_unlock(&r->mutex);
+    iocsq_unlock(&r->mutex);
 }
 
 /* What an insert or a put-back did that was accepted, `named` being the pass in its steps. The
@@ -191,7 +207,7 @@ bool iocsq_reference_insert(struct iocsq_reference *r, struct iocsq_irp *i, uint
     iocsq_touch(i, IOCSQ_CHANGES);
     iocsq_touch(r, IOCSQ_CHANGES);
     struct csq_irp context, irp = irp_of(i->stay);
-    pthread_mutex_lock(&r->mutex);
+    iocsq_lock(&r->mutex);
     uint32_t pass = lend_pass(r);
     uint32_t code = csq_insert(&r->queue, &r->passes[pass].pass, irp.irp, file, first, &context);
     return_pass(r, pass);
@@ -200,7 +216,7 @@ bool iocsq_reference_insert(struct iocsq_reference *r, struct iocsq_irp *i, uint
     }
     r->files[irp.irp] = file;
     settle(i, pass, pass, "arm", code);
-    pthread_mutex_unlock(&r->mutex);
+    iocsq_unlock(&r->mutex);
     return code == CSQ_OK;
 }
 
@@ -215,7 +231,7 @@ uint32_t iocsq_reference_put_back(struct iocsq_reference *r, struct iocsq_irp *i
     iocsq_touch(r, IOCSQ_CHANGES);
     struct csq_irp context;
     uint32_t code = CSQ_NOT_HELD;
-    pthread_mutex_lock(&r->mutex);
+    iocsq_lock(&r->mutex);
     uint32_t pass = i->pass;
     uint64_t stay = i->stay;
     if (stay && reference_of(stay) == r) {
@@ -229,7 +245,7 @@ uint32_t iocsq_reference_put_back(struct iocsq_reference *r, struct iocsq_irp *i
     } else {
         expect(code, CSQ_NOT_HELD, "csq_put_back");
     }
-    pthread_mutex_unlock(&r->mutex);
+    iocsq_unlock(&r->mutex);
     return code;
 }
 
@@ -237,10 +253,10 @@ uint32_t iocsq_reference_remove(struct iocsq_reference *r, struct iocsq_irp *i) 
     iocsq_touch(i, IOCSQ_CHANGES);
     iocsq_touch(r, IOCSQ_CHANGES);
     uint32_t verdict = CSQ_REMOVE_NOT_LISTED;
-    pthread_mutex_lock(&r->mutex);
+    iocsq_lock(&r->mutex);
     uint64_t stay = i->stay;
     if (!stay || reference_of(stay) != r) {
-        pthread_mutex_unlock(&r->mutex);
+        iocsq_unlock(&r->mutex);
         return verdict;
     }
     uint32_t pass = lend_pass(r);
@@ -256,7 +272,7 @@ uint32_t iocsq_reference_remove(struct iocsq_reference *r, struct iocsq_irp *i) 
     } else {
         iocsq_step(i, pass, "end");
     }
-    pthread_mutex_unlock(&r->mutex);
+    iocsq_unlock(&r->mutex);
     return verdict;
 }
 
@@ -287,7 +303,7 @@ void iocsq_reference_run_routine(const struct iocsq_claim *claim, struct iocsq_i
     iocsq_touch(i, IOCSQ_CHANGES);
     iocsq_touch(claim->reference, IOCSQ_CHANGES);
     struct iocsq_reference *r = claim->reference;
-    pthread_mutex_lock(&r->mutex);
+    iocsq_lock(&r->mutex);
     lend_this_pass(r, claim->pass);
     uint32_t code = csq_cancel_routine(&r->queue, &r->passes[claim->pass].pass, claim->irp);
     return_pass(r, claim->pass);
@@ -295,7 +311,7 @@ void iocsq_reference_run_routine(const struct iocsq_claim *claim, struct iocsq_i
     iocsq_step(i, claim->pass, "out");
     i->pass = claim->pass;
     i->place = IOCSQ_CANCELLED;
-    pthread_mutex_unlock(&r->mutex);
+    iocsq_unlock(&r->mutex);
 }
 
 /* The next life of its slot begins, and the slot is free. The queue's mutex and the pass's are
@@ -306,9 +322,7 @@ static void free_slot(struct iocsq_reference *r, struct iocsq_irp *i, struct csq
            "csq_reuse");
     i->stay = 0;
     i->place = IOCSQ_HOME;
-    iocsq_touch(&r->free_count, IOCSQ_LOOKS);
-    r->by_slot[irp.irp] = NULL;
-    r->free_slots[r->free_count++] = irp.irp;
+    give_slot(r, irp.irp);
 }
 
 /* What a driver does with an IRP that stays in a queue. */
@@ -339,7 +353,7 @@ static uint32_t end_stay(struct iocsq_irp *i, struct use use) {
         return CSQ_USE_NOT_HELD;
     }
     struct iocsq_reference *r = reference_of(stay);
-    pthread_mutex_lock(&r->mutex);
+    iocsq_lock(&r->mutex);
     lend_this_pass(r, pass);
     if (!i->hand.armed || use.inserts) {
         iocsq_step(i, pass, use.step); /* of its own steps hand.c has noted it */
@@ -349,7 +363,7 @@ static uint32_t end_stay(struct iocsq_irp *i, struct use use) {
         free_slot(r, i, irp_of(stay), pass);
     }
     return_pass(r, pass);
-    pthread_mutex_unlock(&r->mutex);
+    iocsq_unlock(&r->mutex);
     return verdict;
 }
 

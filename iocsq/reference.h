@@ -6,7 +6,6 @@
 #include "csq.h"
 #include "internal.h"
 
-#include <pthread.h>
 
 /* The most queues, and of each the IRPs, which have slots, and the file objects' numbers, with that
  * of none: fewer than csq.h allows, since a queue is looked through again and again. */
@@ -14,19 +13,20 @@ enum { IOCSQ_QUEUES = 512, IOCSQ_SLOTS = 1024, IOCSQ_NUMBERS = IOCSQ_FILES + 1, 
 
 /* A pass is used by one thread at a time. */
 struct iocsq_lent_pass {
-    pthread_mutex_t mutex; /* held for one call of csq.h alone, and taken after the queue's */
+    struct iocsq_mutex mutex; /* held for one call of csq.h alone, and taken after the queue's */
     struct csq_pass pass;
 };
 
 struct iocsq_reference {
     uint32_t index; /* below IOCSQ_QUEUES */
-    pthread_mutex_t mutex; /* the lock of the queue, and of the fields below */
+    struct iocsq_mutex mutex; /* the lock of the queue, and of the fields below */
     struct csq_queue queue;
     struct iocsq_lent_pass passes[IOCSQ_PASSES];
     /* An IRP has a slot while it stays in the queue: from its insert until its completion, or until
      * the driver inserts it elsewhere. Each stay is one life of the slot, so a cancel that comes
      * late names an old life. */
     struct iocsq_irp *by_slot[IOCSQ_SLOTS];
+    uint32_t used_slots; /* none above was ever used */
     uint32_t files[IOCSQ_SLOTS]; /* for which the IRP was inserted */
     uint32_t lives[IOCSQ_SLOTS];
     uint32_t free_slots[IOCSQ_SLOTS];

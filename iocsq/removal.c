@@ -13,29 +13,34 @@ VOID NTAPI IoInitializeRemoveLockEx(PIO_REMOVE_LOCK Lock, ULONG AllocateTag, ULO
     KeInitializeEvent(&Lock->RemoveEvent, NotificationEvent, FALSE);
 }
 
+/* Acquires and releases commute with each other: it is the same where a tag stands. Not with what
+ * waits for all releases, which changes what these look at. */
+IOCSQ_ADDS static bool acquire(PIO_REMOVE_LOCK lock, PVOID tag) {
+    if (lock->IoCount == 0 && !lock->Removed) {
+        iocsq_disagree(NULL, "IoAcquireRemoveLock of a remove lock that was not initialized");
+    }
+    if (lock->Removed) {
+        return false;
+    }
+    lock->IoCount++;
+    if (lock->TagCount < IOCSQ_REMOVE_TAGS) {
+        lock->Tags[lock->TagCount++] = tag;
+    }
+    return true;
+}
+
 NTSTATUS NTAPI IoAcquireRemoveLockEx(PIO_REMOVE_LOCK RemoveLock, PVOID Tag, PCSTR File, ULONG Line,
                                      ULONG RemlockSize) {
-    NTSTATUS status = STATUS_SUCCESS;
     (void)File, (void)Line, (void)RemlockSize;
     iocsq_point();
     iocsq_lock_state_for(RemoveLock, IOCSQ_LOOKS);
-    if (RemoveLock->IoCount == 0 && !RemoveLock->Removed) {
-        iocsq_disagree(NULL, "IoAcquireRemoveLock of a remove lock that was not initialized");
-    }
-    if (RemoveLock->Removed) {
-        status = STATUS_DELETE_PENDING;
-    } else {
-        RemoveLock->IoCount++;
-        if (RemoveLock->TagCount < IOCSQ_REMOVE_TAGS) {
-            RemoveLock->Tags[RemoveLock->TagCount++] = Tag;
-        }
-    }
+    bool may = acquire(RemoveLock, Tag);
     iocsq_unlock_state();
-    return status;
+    return may ? STATUS_SUCCESS : STATUS_DELETE_PENDING;
 }
 
 /* One acquire with this tag is undone. Of very many acquires not all tags are known. */
-static void release(PIO_REMOVE_LOCK lock, PVOID tag) {
+IOCSQ_ADDS static void release(PIO_REMOVE_LOCK lock, PVOID tag) {
     ULONG at = 0, count = lock->TagCount;
     while (at < count && lock->Tags[at] != tag) {
         at++;
@@ -100,27 +105,37 @@ VOID FASTCALL ExReInitializeRundownProtection(PEX_RUNDOWN_REF RunRef) {
     iocsq_touch(&RunRef->Released, IOCSQ_CHANGES | IOCSQ_RELEASES);
 }
 
+/* As of a remove lock. */
+IOCSQ_ADDS static bool acquire_rundown(PEX_RUNDOWN_REF of) {
+    bool may = !(of->Count & REFUSES);
+    of->Count += may ? ACQUIRE : 0;
+    return may;
+}
+
+IOCSQ_ADDS static void release_rundown(PEX_RUNDOWN_REF of) {
+    if (of->Count < ACQUIRE) {
+        iocsq_disagree(NULL, "ExReleaseRundownProtection without an acquire");
+    }
+    of->Count -= ACQUIRE;
+    if (of->Count == REFUSES) {
+        of->Released.Header.SignalState = 1;
+        iocsq_state_changed();
+    }
+}
+
 BOOLEAN FASTCALL ExAcquireRundownProtection(PEX_RUNDOWN_REF RunRef) {
-    iocsq_expect_header(&RunRef->Released.Header, "ExAcquireRundownProtection");
     iocsq_point();
     iocsq_lock_state_for(RunRef, IOCSQ_LOOKS);
     iocsq_touch(&RunRef->Released, IOCSQ_LOOKS | IOCSQ_ACQUIRES);
-    bool may = !(RunRef->Count & REFUSES);
-    RunRef->Count += may ? ACQUIRE : 0;
+    iocsq_expect_header(&RunRef->Released.Header, "ExAcquireRundownProtection");
+    bool may = acquire_rundown(RunRef);
     iocsq_unlock_state();
     return may;
 }
 
 VOID FASTCALL ExReleaseRundownProtection(PEX_RUNDOWN_REF RunRef) {
     iocsq_lock_state_for(RunRef, IOCSQ_LOOKS | IOCSQ_RELEASES);
-    if (RunRef->Count < ACQUIRE) {
-        iocsq_disagree(NULL, "ExReleaseRundownProtection without an acquire");
-    }
-    RunRef->Count -= ACQUIRE;
-    if (RunRef->Count == REFUSES) {
-        RunRef->Released.Header.SignalState = 1;
-        iocsq_state_changed();
-    }
+    release_rundown(RunRef);
     iocsq_unlock_state();
     iocsq_point();
 }

@@ -1,14 +1,8 @@
 /* What is printed: each call as a line, and in the end a report with the last of them. */
-#define _GNU_SOURCE
 #include "internal.h"
 
-#include <pthread.h>
-#include <sched.h>
-#include <signal.h>
 #include <stdarg.h>
 #include <stdlib.h>
-#include <time.h>
-#include <unistd.h>
 
 enum { LINES = 4096, TEXT = 100, SHOWN = 16, SHOWN_OF_IRP = 12 };
 
@@ -27,7 +21,7 @@ struct history {
 static struct line *lines;        /* LINES of them */
 static struct history *histories; /* one for each IRP */
 static _Atomic uint64_t next_line;
-static pthread_mutex_t report_mutex = PTHREAD_MUTEX_INITIALIZER;
+static struct iocsq_mutex report_mutex = IOCSQ_MUTEX;
 
 static _Atomic uint32_t threads;
 static ULONG chaos_seed;
@@ -50,7 +44,8 @@ uint32_t iocsq_number_thread(void) {
     return ++threads;
 }
 
-uint32_t iocsq_thread_count(void) {
+/* A thread that is known has a number below it in any order. */
+IOCSQ_COMMUTES uint32_t iocsq_thread_count(void) {
     return threads;
 }
 
@@ -90,10 +85,9 @@ void iocsq_point(void) {
     uint32_t face = chaos_seed ? iocsq_random() % 64 : 63;
     if (face == 0) {
         uint32_t most = iocsq_rarely(16) ? 3000000 : 50000; /* now and then a long delay */
-        struct timespec delay = { 0, (long)(iocsq_random() % most) };
-        nanosleep(&delay, NULL);
+        iocsq_sleep(iocsq_random() % most);
     } else if (face < 12) {
-        sched_yield();
+        iocsq_let_others_run();
     }
 }
 
@@ -137,8 +131,9 @@ VOID IocsqStop(ULONG64 Call) {
     stops_at = Call;
 }
 
-__attribute__((format(printf, 3, 0))) static void add_line(const struct iocsq_irp *about, bool sent,
-                                                           const char *format, va_list rest) {
+__attribute__((format(IOCSQ_PRINTF, 3, 0))) static void add_line(const struct iocsq_irp *about,
+                                                                 bool sent, const char *format,
+                                                                 va_list rest) {
     char text[TEXT] = "";
     uint64_t number = next_line++;
     vsnprintf(text, sizeof text, format, rest);
@@ -148,7 +143,7 @@ __attribute__((format(printf, 3, 0))) static void add_line(const struct iocsq_ir
         write_history(about->index, sent, number, text);
     }
     if (number == stops_at) {
-        raise(SIGTRAP);
+        iocsq_stop();
     }
 }
 
@@ -203,7 +198,7 @@ void iocsq_set_hint(const char *text) {
 
 void iocsq_disagree(const struct iocsq_irp *about, const char *format, ...) {
     va_list rest;
-    pthread_mutex_lock(&report_mutex); /* for good: the first report ends the program */
+    iocsq_lock(&report_mutex); /* for good: the first report ends the program */
     fprintf(stderr, "iocsq: t%u: ", iocsq_thread());
     va_start(rest, format);
     vfprintf(stderr, format, rest);
@@ -222,17 +217,17 @@ void iocsq_disagree(const struct iocsq_irp *about, const char *format, ...) {
         iocsq_note_schedule(about);
     }
     iocsq_show_last_calls();
-    _exit(iocsq_own.report_status ? iocsq_own.report_status : IOCSQ_DISAGREES);
+    iocsq_exit(iocsq_own.report_status ? iocsq_own.report_status : IOCSQ_DISAGREES);
 }
 
 void iocsq_fail(const char *format, ...) {
     va_list rest;
-    pthread_mutex_lock(&report_mutex);
+    iocsq_lock(&report_mutex);
     fprintf(stderr, "iocsq itself: ");
     va_start(rest, format);
     vfprintf(stderr, format, rest);
     va_end(rest);
     fprintf(stderr, "\n");
     iocsq_show_last_calls();
-    abort();
+    iocsq_abort();
 }

@@ -29,8 +29,9 @@ NTSTATUS NTAPI ExInitializeResourceLite(PERESOURCE Resource) {
 }
 
 /* The place of this thread among the sharers, or of the first that is free for 0. IOCSQ_SHARERS:
- * there is none. */
-static uint32_t place_of(const ERESOURCE *resource, uint32_t thread) {
+ * there is none. Others write only their own numbers there, and a free place is taken only once the
+ * resource is touched. */
+IOCSQ_COMMUTES static uint32_t place_of(const ERESOURCE *resource, uint32_t thread) {
     uint32_t at = 0;
     while (at < IOCSQ_SHARERS && resource->Sharers[at].Thread != thread) {
         at++;
@@ -77,14 +78,16 @@ void iocsq_check_no_resource(const void *from, size_t size, const char *what) {
 struct acquire {
     PERESOURCE resource;
     bool exclusive;
+    uint32_t thread;
 };
 
-/* Whether it can be had now. What a thread has exclusively it can have again in both ways. */
+/* Whether it can be had now. What a thread has exclusively it can have again in both ways. In turns
+ * another thread asks this. */
 static bool can_be_had(void *of) {
     const struct acquire *by = of;
     const ERESOURCE *resource = by->resource;
     if (resource->Owner != 0) {
-        return resource->Owner == iocsq_thread();
+        return resource->Owner == by->thread;
     }
     return !by->exclusive || !is_shared(resource);
 }
@@ -135,12 +138,12 @@ static BOOLEAN acquire(struct acquire by, BOOLEAN wait, const char *call) {
 }
 
 BOOLEAN NTAPI ExAcquireResourceExclusiveLite(PERESOURCE Resource, BOOLEAN Wait) {
-    struct acquire by = { Resource, true };
+    struct acquire by = { Resource, true, iocsq_thread() };
     return acquire(by, Wait, "ExAcquireResourceExclusiveLite");
 }
 
 BOOLEAN NTAPI ExAcquireResourceSharedLite(PERESOURCE Resource, BOOLEAN Wait) {
-    struct acquire by = { Resource, false };
+    struct acquire by = { Resource, false, iocsq_thread() };
     return acquire(by, Wait, "ExAcquireResourceSharedLite");
 }
 

@@ -5,9 +5,7 @@
  * with csqsim's. */
 #include "verdicts.h"
 
-#include <fcntl.h>
 #include <stdlib.h>
-#include <unistd.h>
 
 enum { SCHEDULES = 1024, LINE = 32 * IOCSQ_STEPS };
 
@@ -39,11 +37,10 @@ static void write_line(const char *line, size_t length) {
     if (!path) {
         return;
     }
-    int file = open(path, O_WRONLY | O_CREAT | O_APPEND, 0644);
-    if (file < 0 || write(file, line, length) != (ssize_t)length) {
+    FILE *file = fopen(path, "a");
+    if (!file || fwrite(line, 1, length, file) != length || fclose(file) != 0) {
         iocsq_fail("IOCSQ_SCHEDULES: %s can't be written", path);
     }
-    close(file);
 }
 
 /* The steps on one line, as they are compared too. Returns its length. */
@@ -72,7 +69,7 @@ static uint64_t hash_of(const char *line, size_t length) {
     return hash;
 }
 
-static bool is_noted(uint64_t hash) {
+IOCSQ_COMMUTES static bool is_noted(uint64_t hash) {
     for (uint64_t at = 0; at < noted->counts.different; at++) {
         if (noted->hashes[at] == hash) {
             return true;
@@ -82,7 +79,7 @@ static bool is_noted(uint64_t hash) {
 }
 
 /* A schedule that none before equals, and of which the replay says this. */
-static void keep(const struct iocsq_verdict *v, uint64_t hash, const char *steps) {
+IOCSQ_COMMUTES static void keep(const struct iocsq_verdict *v, uint64_t hash, const char *steps) {
     char line[LINE + 32];
     if (noted->counts.different == SCHEDULES) {
         iocsq_fail("more than %u different schedules", (unsigned)SCHEDULES);
@@ -139,9 +136,13 @@ static const char *excuse_of(const struct iocsq_schedule *s, const struct iocsq_
     return NULL;
 }
 
-static void leave_out(const char *why) {
+IOCSQ_COMMUTES static void leave_out(const char *why) {
     noted->counts.left_out++;
     write_left_out(why);
+}
+
+IOCSQ_COMMUTES static void count_irp(void) {
+    noted->counts.irps++;
 }
 
 /* Whether the IRP's steps are a new schedule; then what came of its replay. */
@@ -165,7 +166,7 @@ static bool note(const struct iocsq_irp *i, struct iocsq_schedule *s, struct ioc
         leave_out(why);
         return false;
     }
-    noted->counts.irps++;
+    count_irp();
     if (is_new) {
         keep(v, hash, line);
     }

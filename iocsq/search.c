@@ -3,7 +3,6 @@
 #include "judge.h"
 #include "queues.h"
 
-#include <unistd.h>
 
 enum { AUDITED = 64 };  /* a longer list is looked through only now and then */
 enum { LOOKED_IN = 16 }; /* one in this many removals of a thread is looked ahead of */
@@ -158,10 +157,15 @@ struct iocsq_irp *iocsq_peek(struct iocsq_search *s) {
     return answer;
 }
 
+/* All write the same. */
+IOCSQ_COMMUTES static void note_own_peek(void) {
+    has_own_peeks = true;
+}
+
 /* All answers from the first on, which are judged. */
 static void peek_to_the_last(struct iocsq_search *s) {
     struct iocsq_undo undo;
-    has_own_peeks = true;
+    note_own_peek();
     iocsq_begin_undo(&undo, __builtin_frame_address(0));
     iocsq_own.hushed++;
     while (iocsq_peek(s)) {
@@ -217,8 +221,9 @@ void iocsq_ask_for_policy(void) {
         "iocsq: the policy is missing: iocsq asked CsqPeekNextIrp with null as peek context, which "
         "the driver itself never does, and it used a bad address. If null doesn't mean any IRP to "
         "the driver, its policy says NoAudit.\n";
-    if (iocsq_own.asks_alone && write(STDERR_FILENO, text, sizeof text - 1) > 0) {
+    if (iocsq_own.asks_alone) {
+        iocsq_write_error(text);
         iocsq_show_last_calls();
-        _exit(IOCSQ_NO_POLICY);
+        iocsq_exit(IOCSQ_NO_POLICY);
     }
 }

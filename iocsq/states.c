@@ -8,7 +8,6 @@
 #define _GNU_SOURCE
 #include "internal.h"
 
-#include <sys/mman.h>
 
 enum { FIRST_ROOM = 1 << 6, OPTIONS = 64 }; /* so few that each search grows its tables */
 
@@ -41,12 +40,7 @@ bool iocsq_has_states(void) {
 }
 
 static void *map(size_t size) {
-    void *made = mmap(NULL, size, PROT_READ | PROT_WRITE,
-                      MAP_PRIVATE | MAP_ANONYMOUS | MAP_NORESERVE, -1, 0);
-    if (made == MAP_FAILED) {
-        iocsq_fail("no memory for the states of schedules");
-    }
-    return made;
+    return iocsq_map(size, "no memory for the states of schedules");
 }
 
 /* ---- Tables ---- */
@@ -68,7 +62,7 @@ static void grow(struct table *t) {
         }
     }
     if (before.of) {
-        munmap(before.of, before.room * sizeof *before.of);
+        iocsq_unmap(before.of, before.room * sizeof *before.of);
     }
 }
 

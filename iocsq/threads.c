@@ -3,7 +3,6 @@
 #define _GNU_SOURCE
 #include "internal.h"
 
-#include <pthread.h>
 #include <stdlib.h>
 
 enum { THREAD = 6 }; /* a header's type */
@@ -79,7 +78,7 @@ NTSTATUS NTAPI PsTerminateSystemThread(NTSTATUS ExitStatus) {
     }
     end_thread(iocsq_own.system_thread);
     iocsq_end_turns_of_thread();
-    pthread_exit(NULL);
+    iocsq_end_thread();
 }
 
 PKTHREAD NTAPI KeGetCurrentThread(VOID) {

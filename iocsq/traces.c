@@ -4,10 +4,10 @@
  * class of schedules: docs/DRIVERS.md says how seldom. */
 #define _GNU_SOURCE
 #include "internal.h"
+#include "keys.h"
 
-#include <sys/mman.h>
 
-enum { PARTS = 256, OBJECTS = 1 << 15, LOOKS = 64, THREADS = 256 };
+enum { PARTS = 256, THREADS = 256 };
 enum { TOUCHES = 24, TRANSITIONS = 1 << 16, WAYS = 4 };
 
 struct clock {
@@ -16,7 +16,6 @@ struct clock {
 /* What threads touch: a lock, an event, an IRP. */
 struct object {
     const void *at;
-    uint32_t run;
     bool is_word;
     uint64_t changed; /* the last change, */
     uint64_t looked;  /* and the looks since then */
@@ -36,11 +35,15 @@ struct traces {
     uint32_t run, parts;
     uint64_t last[THREADS], lines[THREADS], sum;
     struct transition present; /* its count is above TOUCHES: it isn't kept */
-    struct transition transitions[TRANSITIONS];
+    uint32_t kept[TRANSITIONS]; /* numbers of transitions, those of a thread's last touch in WAYS
+                                 * places; 0: none */
+    uint32_t kept_count;
+    struct transition transitions[TRANSITIONS + 1]; /* side by side, as they come */
     struct clock clocks[PARTS];
-    struct object objects[OBJECTS];
-    uint32_t clock_count; /* of objects, side by side, so that a run has few pages */
-    struct clock object_clocks[OBJECTS];
+    struct iocsq_keys keys; /* of objects */
+    struct object objects[IOCSQ_KEYS];
+    uint32_t clock_count; /* of objects, side by side as those are */
+    struct clock object_clocks[IOCSQ_KEYS];
 };
 static struct traces *traces; /* null: none are kept */
 
@@ -49,12 +52,13 @@ bool iocsq_keeps_traces(void) {
 }
 
 void iocsq_begin_traces(void) {
-    traces = mmap(NULL, sizeof *traces, PROT_READ | PROT_WRITE,
-                  MAP_PRIVATE | MAP_ANONYMOUS | MAP_NORESERVE, -1, 0);
-    if (traces == MAP_FAILED) {
-        iocsq_fail("no memory for traces");
-    }
+    traces = iocsq_map(sizeof *traces, "no memory for traces");
     iocsq_begin_trace();
+}
+
+static void begin_object(struct object *o, const void *at) {
+    const struct object none = { .at = at };
+    *o = none;
 }
 
 void iocsq_begin_trace(void) {
@@ -66,6 +70,8 @@ void iocsq_begin_trace(void) {
     traces->parts = 1;
     traces->clock_count = 0;
     traces->sum = 0;
+    iocsq_forget_keys(&traces->keys);
+    begin_object(&traces->objects[IOCSQ_TOO_MANY], &traces->objects);
     memset(traces->last, 0, sizeof traces->last);
     memset(traces->lines, 0, sizeof traces->lines);
     traces->clocks[0].of[0] = 1;
@@ -77,15 +83,6 @@ uint32_t iocsq_run_number(void) {
 }
 
 /* ---- The order of all touches ---- */
-uint64_t iocsq_mix(uint64_t a, uint64_t b) {
-    a ^= b + UINT64_C(0x9E3779B97F4A7C15) + (a << 6) + (a >> 2);
-    a ^= a >> 31;
-    a *= UINT64_C(0xBF58476D1CE4E5B9);
-    a ^= a >> 27;
-    a *= UINT64_C(0x94D049BB133111EB);
-    return a ^ a >> 31;
-}
-
 static uint64_t *last_of(uint32_t thread) {
     return &traces->last[thread % THREADS];
 }
@@ -108,27 +105,17 @@ void iocsq_trace_choice(uint32_t option) {
     }
 }
 
+/* Where there are too many, several are taken for one, so that their touches depend on each
+ * other. */
 static struct object *object_at(const void *at, bool makes) {
-    uint64_t hash = iocsq_mix((uintptr_t)at, 7);
-    for (uint32_t look = 0; look < LOOKS; look++) {
-        struct object *o = &traces->objects[(hash + look) % OBJECTS];
-        if (o->run == traces->run && o->at == at) {
-            return o;
-        }
-        if (o->run != traces->run && !makes) {
-            return NULL;
-        }
-        if (o->run != traces->run) {
-            o->at = at;
-            o->run = traces->run;
-            o->changed = o->looked = 0;
-            o->clock = NULL;
-            o->is_word = false;
-            return o;
-        }
+    uint32_t before = traces->keys.count;
+    uint64_t key = (uintptr_t)at;
+    uint32_t number = iocsq_number_of_key(&traces->keys, key, iocsq_mix(key, 7), makes);
+    struct object *o = &traces->objects[number];
+    if (traces->keys.count > before) {
+        begin_object(o, at);
     }
-    return &traces->objects[hash % OBJECTS]; /* too many: two are taken for one, so that their
-                                              * touches depend on each other */
+    return number == IOCSQ_NO_NUMBER ? NULL : o;
 }
 
 /* ---- What happened before ---- */
@@ -176,11 +163,9 @@ static void note_touch(uint32_t thread, const struct object *o) {
     made->touches[made->count++].looked = o->looked;
 }
 
-static void touch(uint32_t thread, const void *at, unsigned how) {
-    struct object *o = object_at(at, true);
+static void order_touch(uint32_t thread, struct object *o, unsigned how) {
     uint64_t before = *last_of(thread);
     note_touch(thread, o);
-    o->is_word = o->is_word || how & IOCSQ_WORD;
     if (how & IOCSQ_CHANGES) {
         o->changed = iocsq_mix(iocsq_mix(before, o->changed), o->looked);
         o->looked = 0;
@@ -189,6 +174,19 @@ static void touch(uint32_t thread, const void *at, unsigned how) {
         uint64_t looked = iocsq_mix(iocsq_mix(before, o->changed), 3);
         o->looked += looked;
         step(thread, looked);
+    }
+}
+
+/* The order of all touches matters to the search alone, and races only to what happened before. */
+static void touch(uint32_t thread, const void *at, unsigned how) {
+    bool is_search = iocsq_is_bounded();
+    if (!is_search && !(how & (IOCSQ_ACQUIRES | IOCSQ_RELEASES | IOCSQ_WORD))) {
+        return;
+    }
+    struct object *o = object_at(at, true);
+    o->is_word = o->is_word || how & IOCSQ_WORD;
+    if (is_search) {
+        order_touch(thread, o, how);
     }
     if (how & IOCSQ_ACQUIRES && o->clock) {
         join(clock_of_part(), o->clock);
@@ -267,8 +265,9 @@ void iocsq_end_part(const void *done, uint32_t before) {
 }
 
 /* ---- Transitions ---- */
-static struct transition *transitions_from(uint32_t thread, uint64_t from) {
-    return &traces->transitions[iocsq_mix(from, thread) % (TRANSITIONS / WAYS) * WAYS];
+/* WAYS numbers. */
+static uint32_t *transitions_from(uint32_t thread, uint64_t from) {
+    return &traces->kept[iocsq_mix(from, thread) % (TRANSITIONS / WAYS) * WAYS];
 }
 
 void iocsq_begin_transition(void) {
@@ -291,17 +290,25 @@ static bool is_kept(const struct transition *made, uint64_t name) {
            name % 2 == 0 && name >> 32 == 0;
 }
 
+static void keep(uint32_t *number, const struct transition *made) {
+    if (*number == 0) {
+        *number = ++traces->kept_count;
+    }
+    memcpy(&traces->transitions[*number], made,
+           offsetof(struct transition, touches) + made->count * sizeof *made->touches);
+}
+
 void iocsq_end_transition(uint64_t name) {
     struct transition *made = &traces->present;
     if (is_kept(made, name)) {
-        struct transition *kept = transitions_from(made->thread, made->from);
+        uint32_t *kept = transitions_from(made->thread, made->from);
         made->to = *last_of(made->thread);
         made->name = name;
         uint32_t way = 0;
-        while (way < WAYS && kept[way].thread && !is_same(&kept[way], made)) {
+        while (way < WAYS && kept[way] && !is_same(&traces->transitions[kept[way]], made)) {
             way++;
         }
-        kept[way < WAYS ? way : made->to % WAYS] = *made;
+        keep(&kept[way < WAYS ? way : made->to % WAYS], made);
     }
     iocsq_begin_transition();
 }
@@ -319,11 +326,12 @@ static bool applies(const struct transition *t) {
 
 uint64_t iocsq_predict(uint32_t thread) {
     uint64_t last = *last_of(thread);
-    const struct transition *kept = transitions_from(thread, last);
-    for (uint32_t way = 0; way < WAYS; way++) {
-        if (kept[way].thread == thread && kept[way].from == last && applies(&kept[way])) {
+    const uint32_t *kept = transitions_from(thread, last);
+    for (uint32_t way = 0; way < WAYS && kept[way]; way++) {
+        const struct transition *t = &traces->transitions[kept[way]];
+        if (t->thread == thread && t->from == last && applies(t)) {
             uint64_t without = traces->sum - (last ? iocsq_mix(last, thread) : 0);
-            return iocsq_state(without + iocsq_mix(kept[way].to, thread), kept[way].name);
+            return iocsq_state(without + iocsq_mix(t->to, thread), t->name);
         }
     }
     return 0;
@@ -336,7 +344,8 @@ uint64_t iocsq_state(uint64_t trace, uint64_t name) {
 
 /* ---- Threads' lines ---- */
 void iocsq_trace_line(const char *text) {
-    uint64_t *lines = traces ? &traces->lines[iocsq_thread() % THREADS] : NULL;
+    bool is_search = traces && iocsq_is_bounded();
+    uint64_t *lines = is_search ? &traces->lines[iocsq_thread() % THREADS] : NULL;
     if (lines && strncmp(text, "--", 2) != 0) { /* which thread goes on isn't its own line */
         for (const char *at = text; *at; at++) {
             *lines = *lines * 31 + (unsigned char)*at;

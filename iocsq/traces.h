@@ -23,6 +23,25 @@ enum {
     IOCSQ_WORD = 8 /* the driver may access it too, and no call of the WDK orders that */
 };
 
+static inline uint64_t iocsq_mix(uint64_t a, uint64_t b) {
+    a ^= b + UINT64_C(0x9E3779B97F4A7C15) + (a << 6) + (a >> 2);
+    a ^= a >> 31;
+    a *= UINT64_C(0xBF58476D1CE4E5B9);
+    a ^= a >> 27;
+    a *= UINT64_C(0x94D049BB133111EB);
+    return a ^ a >> 31;
+}
+
+/* Stands before a function whose accesses need no touch, since nothing follows from their order:
+ * the test of the touches (tests/touches.c) defines it, so that it doesn't see them. */
+#ifndef IOCSQ_COMMUTES
+#define IOCSQ_COMMUTES
+#endif
+/* Before one whose accesses commute with those of its like, as additions do, and with no other. */
+#ifndef IOCSQ_ADDS
+#define IOCSQ_ADDS
+#endif
+
 /* ---- traces.c ---- */
 bool iocsq_keeps_traces(void);
 void iocsq_begin_traces(void); /* of all runs to come, outside of the program's variables */
@@ -37,7 +56,6 @@ void iocsq_look_at_clock(void);
 /* The same of two runs that differ in the order of independent touches alone. */
 uint64_t iocsq_trace(void);
 void iocsq_trace_choice(uint32_t option); /* of what this thread drew */
-uint64_t iocsq_mix(uint64_t a, uint64_t b);
 
 /* Of what runs in an order of its own: a thread, but also each DPC and each work item, whichever
  * thread calls it. */

@@ -1,14 +1,11 @@
 /* Turns: with a seed one thread runs at a time, and at each point the next one is drawn from the
  * seed. So a run is the same whenever its seed is, a wait takes no time, and threads that all wait
  * for each other are reported. In the bounded mode the next one is a choice of explore.c in the
- * place of a draw, and threads are contexts of one thread of the system, since a switch between
- * those takes too long. */
+ * place of a draw. The threads are contexts of one thread of the system (contexts.h). */
 #define _GNU_SOURCE
 #include "contexts.h"
 #include "internal.h"
 
-#include <pthread.h>
-#include <sched.h>
 #include <stdlib.h>
 
 enum { TASKS = 256, SHORT_REST = 400, LONG_REST = 4000 };
@@ -18,8 +15,6 @@ enum { GOES_ROUND = 2000 }; /* points without a switch: the thread waits for ano
 
 /* A thread, as it takes turns. */
 struct task {
-    pthread_t thread;
-    pthread_cond_t turn;
     void *(*start)(void *);
     void *context;
     bool (*may_go)(void *); /* null: it may */
@@ -33,14 +28,11 @@ struct task {
     bool done;
     bool joined; /* its place is free, with which another begins once there is no other */
     uint32_t priority; /* 0: it has none yet */
-    struct iocsq_context bounded; /* in the bounded mode, with the next */
     struct iocsq_own own;
 };
-static pthread_mutex_t baton = PTHREAD_MUTEX_INITIALIZER; /* of all that follows */
-static struct task *tasks; /* TASKS of them */
+static struct task *tasks; /* TASKS of them; each has the context of its number */
 static uint32_t task_count;
-static struct task *running;
-static _Thread_local struct task *self;
+static struct task *self; /* which runs; null: threads run freely */
 static uint32_t draw_state; /* 0: threads run freely */
 static uint64_t given;      /* turns */
 static ULONG most_switches; /* 0: no limit */
@@ -56,7 +48,7 @@ static uint32_t draw(uint32_t below) {
 
 /* The main thread goes on as at first, since a run was left. */
 void iocsq_leave_turns(void) {
-    self = running = tasks;
+    self = tasks;
     self->may_go = NULL;
     self->until = IOCSQ_FOR_EVER;
     self->is_time = self->done = false;
@@ -89,7 +81,6 @@ static struct task *find_joined(void) {
 static struct task *new_task(void) {
     struct task *t = task_count < TASKS ? &tasks[task_count++] : find_joined();
     memset(t, 0, sizeof *t);
-    pthread_cond_init(&t->turn, NULL);
     t->until = IOCSQ_FOR_EVER;
     return t;
 }
@@ -102,9 +93,10 @@ VOID IocsqTurns(ULONG Seed) {
     if (!tasks) {
         iocsq_fail("no memory for threads");
     }
+    iocsq_begin_contexts(TASKS);
     IocsqChaos(Seed);
     draw_state = Seed * 2654435761u | 1u;
-    self = running = new_task();
+    self = new_task();
     self->number = iocsq_thread();
     if (!iocsq_is_bounded()) {
         iocsq_begin_races();
@@ -113,10 +105,9 @@ VOID IocsqTurns(ULONG Seed) {
 
 VOID IocsqBounded(VOID) {
     if (iocsq_is_thread_sanitized()) {
-        iocsq_fail("the bounded mode isn't for the thread sanitizer, which sees no contexts");
+        iocsq_fail("the bounded mode isn't for the thread sanitizer, which has its own variables");
     }
     iocsq_begin_choices();
-    iocsq_begin_contexts(TASKS);
     IocsqTurns(1);
 }
 
@@ -128,7 +119,7 @@ static bool is_ready(const struct task *t) {
     return !t->done && (!t->may_go || t->may_go(t->of) || t->until <= iocsq_now_in_turns());
 }
 
-/* ---- Who is next: the baton is held ---- */
+/* ---- Who is next ---- */
 static void report_deadlock(void) {
     for (uint32_t at = 0; at < task_count; at++) {
         if (!tasks[at].done) {
@@ -181,7 +172,7 @@ static void pass_time(void) {
 static struct task *draw_next(void) {
     struct task *able[TASKS];
     uint32_t count;
-    if (self && draw(64) == 0) {
+    if (draw(64) == 0) {
         self->rests = given + draw(draw(4) == 0 ? LONG_REST : SHORT_REST);
     }
     while ((count = find_able(able)) == 0) {
@@ -307,43 +298,29 @@ static struct task *choose_after_wait(void) {
     return next;
 }
 
-static void switch_context(struct task *next) {
+static void go_on_with(struct task *next) {
     struct task *before = self;
     before->own = iocsq_own;
     self = next;
     iocsq_own = next->own;
-    iocsq_begin_transition();
-    iocsq_switch_context(&before->bounded, &next->bounded, before->done);
+    if (iocsq_is_bounded()) {
+        iocsq_begin_transition();
+    }
+    iocsq_switch_context((size_t)(before - tasks), (size_t)(next - tasks), before->done);
 }
 
 static void give_turn(struct task *next) {
-    iocsq_counts.Switches += next != running;
-    running = next;
     points = 0;
-    if (!iocsq_is_bounded()) {
-        pthread_cond_signal(&next->turn);
-    } else if (next != self) {
-        switch_context(next);
-    }
-}
-
-static void hand_over(void) {
-    given++;
-    iocsq_pass_time_of_turn();
-    give_turn(iocsq_is_bounded() ? choose_after_wait() : draw_next());
-}
-
-static void wait_for_turn(void) {
-    while (running != self) {
-        pthread_cond_wait(&self->turn, &baton);
+    if (next != self) {
+        iocsq_counts.Switches++;
+        go_on_with(next);
     }
 }
 
 static void take_turns(void) {
-    pthread_mutex_lock(&baton);
-    hand_over();
-    wait_for_turn();
-    pthread_mutex_unlock(&baton);
+    given++;
+    iocsq_pass_time_of_turn();
+    give_turn(iocsq_is_bounded() ? choose_after_wait() : draw_next());
 }
 
 static void bounded_point(void) {
@@ -355,9 +332,7 @@ static void bounded_point(void) {
     struct task *next = choose_next(false);
     if (next != self) {
         iocsq_pass_time_of_turn();
-        pthread_mutex_lock(&baton);
         give_turn(next);
-        pthread_mutex_unlock(&baton);
     }
 }
 
@@ -388,12 +363,15 @@ void iocsq_yield(void) {
     if (iocsq_in_turns()) {
         take_turns();
     } else {
-        sched_yield();
+        iocsq_let_others_run();
     }
 }
 
 void iocsq_wait_in_turns(bool (*may_go)(void *), void *of, uint64_t nanoseconds, bool is_time,
                          const char *what) {
+    if (may_go(of)) {
+        return;
+    }
     iocsq_report_race();
     if (is_time && nanoseconds != IOCSQ_FOR_EVER) {
         iocsq_pass_time_of_call();
@@ -401,19 +379,16 @@ void iocsq_wait_in_turns(bool (*may_go)(void *), void *of, uint64_t nanoseconds,
     if (nanoseconds != IOCSQ_FOR_EVER) {
         iocsq_look_at_clock();
     }
-    pthread_mutex_lock(&baton);
     self->may_go = may_go;
     self->of = of;
     self->waits_for = what;
     self->is_time = is_time;
     self->until =
         nanoseconds == IOCSQ_FOR_EVER ? IOCSQ_FOR_EVER : iocsq_now_in_turns() + nanoseconds;
-    hand_over();
-    wait_for_turn();
+    take_turns();
     self->may_go = NULL;
     self->until = IOCSQ_FOR_EVER;
     self->is_time = false;
-    pthread_mutex_unlock(&baton);
     if (nanoseconds != IOCSQ_FOR_EVER) {
         iocsq_look_at_clock();
     }
@@ -426,54 +401,29 @@ void iocsq_end_turns_of_thread(void) {
     }
     iocsq_report_race();
     iocsq_touch(self, IOCSQ_CHANGES | IOCSQ_RELEASES);
-    pthread_mutex_lock(&baton);
     self->done = true;
-    hand_over();
-    pthread_mutex_unlock(&baton);
+    take_turns();
 }
 
-static void *run_task(void *task) {
-    self = task;
-    pthread_mutex_lock(&baton);
-    wait_for_turn();
-    pthread_mutex_unlock(&baton);
+static void run_task(void) {
     self->number = iocsq_thread();
-    iocsq_own.part = self->own.part;
-    void *result = self->start(self->context);
-    iocsq_end_turns_of_thread();
-    return result;
-}
-
-/* The same of a context: who gave it its turn has the baton. */
-static void run_context(void) {
-    iocsq_enter_context();
-    pthread_mutex_unlock(&baton);
     self->start(self->context);
     iocsq_end_turns_of_thread();
 }
 
 IOCSQ_THREAD IocsqThread(void *(*Start)(void *), void *Context) {
     if (!iocsq_in_turns()) {
-        pthread_t *thread = malloc(sizeof *thread);
-        if (!thread || pthread_create(thread, NULL, Start, Context) != 0) {
-            iocsq_fail("a thread wasn't started");
-        }
-        return thread;
+        return iocsq_begin_thread(Start, Context);
     }
     iocsq_touch(&task_count, IOCSQ_CHANGES);
     struct task *t = new_task();
     t->start = Start;
     t->context = Context;
-    if (iocsq_is_bounded()) {
+    if (iocsq_is_bounded()) { /* else it has its number as it first runs */
         t->number = t->own.thread = iocsq_number_thread();
-        t->own.part = iocsq_part_of_thread(t->number);
-        iocsq_make_context(&t->bounded, (size_t)(t - tasks), run_context);
-    } else {
-        t->own.part = iocsq_part_of_thread(task_count);
-        if (pthread_create(&t->thread, NULL, run_task, t) != 0) {
-            iocsq_fail("a thread wasn't started");
-        }
     }
+    t->own.part = iocsq_part_of_thread(iocsq_is_bounded() ? t->number : task_count);
+    iocsq_make_context((size_t)(t - tasks), run_task);
     return t;
 }
 
@@ -483,8 +433,7 @@ bool iocsq_has_ended(void *thread) {
 
 VOID IocsqJoin(IOCSQ_THREAD Thread) {
     if (!iocsq_in_turns()) {
-        pthread_join(*(pthread_t *)Thread, NULL);
-        free(Thread);
+        iocsq_join_thread(Thread);
         return;
     }
     struct task *t = Thread;
@@ -492,8 +441,5 @@ VOID IocsqJoin(IOCSQ_THREAD Thread) {
         iocsq_wait_in_turns(iocsq_has_ended, t, IOCSQ_FOR_EVER, false, "a thread's end");
     }
     iocsq_touch(t, IOCSQ_ACQUIRES);
-    if (!iocsq_is_bounded()) {
-        pthread_join(t->thread, NULL);
-    }
     t->joined = true;
 }

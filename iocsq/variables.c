@@ -12,13 +12,9 @@
 #endif
 #endif
 
-/* Of the C library and the linker: all variables of the program, but for those of its shared
- * libraries. */
-extern char __data_start[], _end[];
-
 struct iocsq_variables {
     struct iocsq_own own;
-    size_t size;
+    struct iocsq_part parts[IOCSQ_PARTS];
     char bytes[];
 };
 
@@ -26,19 +22,31 @@ const struct iocsq_variables *iocsq_save_variables(void) {
 #ifdef SANITIZED
     return NULL;
 #else
-    size_t size = (size_t)((uintptr_t)_end - (uintptr_t)__data_start);
-    struct iocsq_variables *saved = malloc(sizeof *saved + size);
+    struct iocsq_part parts[IOCSQ_PARTS];
+    iocsq_find_variables(parts);
+    struct iocsq_variables *saved = malloc(sizeof *saved + parts[0].size + parts[1].size);
     if (!saved) {
         iocsq_fail("no memory for the program's variables");
     }
     saved->own = iocsq_own;
-    saved->size = size;
-    memcpy(saved->bytes, __data_start, size);
+    memcpy(saved->parts, parts, sizeof parts);
+    memcpy(saved->bytes, parts[0].at, parts[0].size);
+    memcpy(saved->bytes + parts[0].size, parts[1].at, parts[1].size);
     return saved;
 #endif
 }
 
 void iocsq_restore_variables(const struct iocsq_variables *saved) {
     iocsq_own = saved->own;
-    memcpy(__data_start, saved->bytes, saved->size);
+    memcpy(saved->parts[0].at, saved->bytes, saved->parts[0].size);
+    memcpy(saved->parts[1].at, saved->bytes + saved->parts[0].size, saved->parts[1].size);
+}
+
+void iocsq_forget_run(const struct iocsq_variables *before) {
+    iocsq_use_arena(false);
+    iocsq_forget_irps();
+    iocsq_restore_variables(before);
+    if (iocsq_in_turns()) {
+        iocsq_leave_turns();
+    }
 }

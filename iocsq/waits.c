@@ -1,23 +1,28 @@
 /* What threads wait for: events, mutexes, semaphores, timers, threads. All of it, with the table of
- * IRPs, is under one lock, the state's, and one condition signals each change. */
+ * IRPs, is under one lock, the state's. */
 #define _GNU_SOURCE
 #include "internal.h"
-
-#include <errno.h>
-#include <pthread.h>
-#include <time.h>
 
 enum { MUTANT = 2, SEMAPHORE = 5 }; /* beside the EVENT_TYPEs, the threads of threads.c, the timers
                                      * of deferred.c */
 enum { INITIALIZED = 0x6C71 };
-enum { SECOND = 1000000000 };
 
-static pthread_mutex_t state_mutex = PTHREAD_MUTEX_INITIALIZER;
-static pthread_cond_t state_condition = PTHREAD_COND_INITIALIZER;
+static struct iocsq_mutex state_mutex = IOCSQ_MUTEX;
+
+/* A thread that waits, where threads run freely. */
+struct waiter {
+    struct iocsq_condition turn;
+    bool (*holds)(void *);
+    void *of;
+    bool woken;
+    struct waiter *next;
+};
+static struct waiter *waiters; /* the longest one first: with the next under the state's lock */
+static bool changed;           /* since they were looked at */
 
 /* ---- The state's lock ---- */
 void iocsq_lock_state_for(const void *object, unsigned how) {
-    pthread_mutex_lock(&state_mutex);
+    iocsq_lock(&state_mutex);
     if (object) {
         iocsq_touch(object, how);
     }
@@ -27,45 +32,90 @@ void iocsq_lock_state(void) {
     iocsq_lock_state_for(&state_mutex, IOCSQ_CHANGES);
 }
 
-void iocsq_unlock_state(void) {
-    pthread_mutex_unlock(&state_mutex);
+/* The first whose wait may be over. It wakes the next in its turn: what it waits for may be one's
+ * alone, and all would wake for it. */
+static void wake_next(void) {
+    struct waiter *w = waiters;
+    while (w && (w->woken || !w->holds(w->of))) {
+        w = w->next;
+    }
+    changed = false;
+    if (w) {
+        w->woken = true;
+        iocsq_wake(&w->turn);
+    }
 }
 
+void iocsq_unlock_state(void) {
+    if (changed) {
+        wake_next();
+    }
+    iocsq_unlock(&state_mutex);
+}
+
+/* In turns each thread is asked whether it waits still (turns.c). */
 void iocsq_state_changed(void) {
-    pthread_cond_broadcast(&state_condition);
+    if (!iocsq_in_turns()) {
+        changed = true;
+    }
 }
 
 uint64_t iocsq_now(void) {
-    struct timespec now;
-    if (iocsq_in_turns()) {
-        return iocsq_now_in_turns();
-    }
-    clock_gettime(CLOCK_MONOTONIC, &now);
-    return (uint64_t)now.tv_sec * SECOND + (uint64_t)now.tv_nsec;
+    return iocsq_in_turns() ? iocsq_now_in_turns() : iocsq_clock();
 }
 
-static struct timespec time_after(uint64_t nanoseconds) {
-    struct timespec until;
-    clock_gettime(CLOCK_REALTIME, &until);
-    nanoseconds += (uint64_t)until.tv_nsec;
-    until.tv_sec += (time_t)(nanoseconds / SECOND);
-    until.tv_nsec = (long)(nanoseconds % SECOND);
-    return until;
+/* Whether the wait is over, since the time is. */
+static bool wait_for_turn(struct waiter *own, uint64_t nanoseconds, uint64_t until) {
+    if (nanoseconds == IOCSQ_FOR_EVER) {
+        iocsq_wait(&own->turn, &state_mutex);
+        return false;
+    }
+    return iocsq_wait_until(&own->turn, &state_mutex, until);
+}
+
+static void add_waiter(struct waiter *added) {
+    struct waiter **link = &waiters;
+    iocsq_begin_condition(&added->turn);
+    while (*link) {
+        link = &(*link)->next;
+    }
+    *link = added;
+}
+
+static void remove_waiter(struct waiter *removed) {
+    struct waiter **link = &waiters;
+    while (*link != removed) {
+        link = &(*link)->next;
+    }
+    *link = removed->next;
+    iocsq_end_condition(&removed->turn);
+}
+
+static void wait_freely(bool (*holds)(void *), void *of, uint64_t nanoseconds) {
+    uint64_t now = iocsq_time(), most = UINT64_MAX - now;
+    uint64_t until = now + (nanoseconds < most ? nanoseconds : most);
+    struct waiter own = { .holds = holds, .of = of };
+    bool over = false;
+    add_waiter(&own);
+    while (!holds(of) && !over) {
+        if (changed) {
+            wake_next();
+        }
+        own.woken = false;
+        over = wait_for_turn(&own, nanoseconds, until);
+        changed = true; /* others may go on too */
+    }
+    remove_waiter(&own);
 }
 
 static bool await(bool (*holds)(void *), void *of, uint64_t nanoseconds, bool is_time,
                   const char *what) {
-    struct timespec until = time_after(nanoseconds == IOCSQ_FOR_EVER ? 0 : nanoseconds);
-    int code = 0;
-    if (nanoseconds > 0 && iocsq_in_turns() && !holds(of)) {
-        pthread_mutex_unlock(&state_mutex);
+    if (nanoseconds > 0 && iocsq_in_turns()) {
+        iocsq_unlock(&state_mutex);
         iocsq_wait_in_turns(holds, of, nanoseconds, is_time, what);
-        pthread_mutex_lock(&state_mutex);
-    }
-    while (nanoseconds > 0 && !iocsq_in_turns() && !holds(of) && code != ETIMEDOUT) {
-        code = nanoseconds == IOCSQ_FOR_EVER
-                   ? pthread_cond_wait(&state_condition, &state_mutex)
-                   : pthread_cond_timedwait(&state_condition, &state_mutex, &until);
+        iocsq_lock(&state_mutex);
+    } else if (nanoseconds > 0 && !iocsq_in_turns() && !holds(of)) {
+        wait_freely(holds, of, nanoseconds);
     }
     return holds(of);
 }
@@ -84,11 +134,10 @@ static bool never(void *of) {
 }
 
 static void sleep_for(uint64_t nanoseconds, bool is_time) {
-    struct timespec delay = { (time_t)(nanoseconds / SECOND), (long)(nanoseconds % SECOND) };
     if (iocsq_in_turns()) {
         iocsq_wait_in_turns(never, NULL, nanoseconds, is_time, "a delay");
     } else {
-        nanosleep(&delay, NULL);
+        iocsq_sleep(nanoseconds);
     }
 }
 

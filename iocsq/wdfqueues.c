@@ -65,6 +65,11 @@ static void present(struct iocsq_wdf_queue *q, struct iocsq_wdf_request *r) {
 }
 
 /* ---- The list, under the queue's lock ---- */
+static bool has_routine(const IRP *irp) {
+    iocsq_touch(iocsq_irp_at(irp), IOCSQ_LOOKS);
+    return irp->CancelRoutine != NULL;
+}
+
 /* Takes the first of this file object out, or if that is null the first of all, but for those that
  * a cancel has: where it is seen before, their routine isn't taken back in vain. Null: there is
  * none. */
@@ -73,7 +78,7 @@ static struct iocsq_wdf_request *take_first(struct iocsq_wdf_queue *q, const FIL
     for (PLIST_ENTRY entry = q->irps.Flink; entry != &q->irps && !found; entry = entry->Flink) {
         PIRP irp = irp_of(entry);
         bool matches = !file || IoGetCurrentIrpStackLocation(irp)->FileObject == file;
-        if (matches && irp->CancelRoutine && IoSetCancelRoutine(irp, NULL)) {
+        if (matches && has_routine(irp) && IoSetCancelRoutine(irp, NULL)) {
             found = iocsq_wdf_request_of(iocsq_irp_at(irp));
         }
     }

@@ -72,6 +72,7 @@ static void *run_worker(void *of) {
     while (iocsq_await(has_work, NULL, IOCSQ_FOR_EVER, "a work item") && first_work) {
         run_first_work();
     }
+    iocsq_touch(&first_work, IOCSQ_LOOKS);
     iocsq_unlock_state();
     return of;
 }

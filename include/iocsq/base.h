@@ -45,7 +45,7 @@ typedef uintptr_t ULONG_PTR, *PULONG_PTR, SIZE_T, *PSIZE_T;
 typedef wchar_t WCHAR, *PWCHAR, *PWSTR;
 typedef const wchar_t *PCWSTR;
 typedef union _LARGE_INTEGER {
-    __extension__ struct { /* which C++ has no word for without a name */
+    IOCSQ_EXTENSION struct { /* which C++ has no word for without a name */
         ULONG LowPart;
         LONG HighPart;
     };
@@ -110,7 +110,7 @@ VOID IocsqPagedCode(VOID); /* at DISPATCH_LEVEL: ends the program with a report 
 #ifdef __cplusplus
 #define C_ASSERT(e) static_assert(e, #e)
 #else
-#define C_ASSERT(e) __extension__ _Static_assert(e, #e)
+#define C_ASSERT(e) IOCSQ_EXTENSION _Static_assert(e, #e)
 #define min(a, b) ((a) < (b) ? (a) : (b))
 #define max(a, b) ((a) > (b) ? (a) : (b))
 #endif

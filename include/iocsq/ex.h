@@ -32,7 +32,7 @@ ULONG NTAPI ExIsResourceAcquiredSharedLite(PERESOURCE Resource); /* how often by
 /* ---- Lists without a lock ---- */
 typedef struct _SLIST_ENTRY {
     struct _SLIST_ENTRY *Next;
-} __attribute__((aligned(16))) SLIST_ENTRY, *PSLIST_ENTRY;
+} IOCSQ_ALIGNED(16) SLIST_ENTRY, *PSLIST_ENTRY;
 typedef struct _SLIST_HEADER {
     USHORT Initialized;
     USHORT Depth;

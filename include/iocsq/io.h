@@ -188,13 +188,13 @@ typedef struct _IRP {
     PVOID UserBuffer;
     union {
         struct {
-            __extension__ union { /* which C++ has no word for without a name */
+            IOCSQ_EXTENSION union { /* which C++ has no word for without a name */
                 KDEVICE_QUEUE_ENTRY DeviceQueueEntry;
                 PVOID DriverContext[4];
             };
             PETHREAD Thread;
             PCHAR AuxiliaryBuffer;
-            __extension__ struct { /* which C++ has no word for without a name */
+            IOCSQ_EXTENSION struct { /* which C++ has no word for without a name */
                 LIST_ENTRY ListEntry;
                 PIO_STACK_LOCATION CurrentStackLocation;
             };

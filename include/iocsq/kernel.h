@@ -57,26 +57,27 @@ VOID NTAPI ExReleaseFastMutexUnsafe(PFAST_MUTEX FastMutex);
 #define KeReleaseGuardedMutex ExReleaseFastMutexUnsafe
 
 VOID IocsqPoint(VOID); /* another thread may come between here */
-#define IOCSQ_INTERLOCKED(call, Target, Value) \
-    (IocsqPoint(), call((Target), (Value), __ATOMIC_SEQ_CST))
+#define IOCSQ_INTERLOCKED(call, Target, Value) (IocsqPoint(), call(Target, Value))
 #define InterlockedExchangePointer(Target, Value) \
-    IOCSQ_INTERLOCKED(__atomic_exchange_n, Target, Value)
-#define InterlockedExchange(Target, Value) IOCSQ_INTERLOCKED(__atomic_exchange_n, Target, Value)
-#define InterlockedExchange64(Target, Value) IOCSQ_INTERLOCKED(__atomic_exchange_n, Target, Value)
-#define InterlockedIncrement(Addend) IOCSQ_INTERLOCKED(__atomic_add_fetch, Addend, 1)
-#define InterlockedIncrement64(Addend) IOCSQ_INTERLOCKED(__atomic_add_fetch, Addend, 1)
-#define InterlockedDecrement(Addend) IOCSQ_INTERLOCKED(__atomic_sub_fetch, Addend, 1)
-#define InterlockedDecrement64(Addend) IOCSQ_INTERLOCKED(__atomic_sub_fetch, Addend, 1)
-#define InterlockedExchangeAdd(Addend, Value) IOCSQ_INTERLOCKED(__atomic_fetch_add, Addend, Value)
-#define InterlockedExchangeAdd64(Addend, Value) IOCSQ_INTERLOCKED(__atomic_fetch_add, Addend, Value)
-#define InterlockedAdd(Addend, Value) IOCSQ_INTERLOCKED(__atomic_add_fetch, Addend, Value)
-#define InterlockedOr(Target, Set) IOCSQ_INTERLOCKED(__atomic_fetch_or, Target, Set)
-#define InterlockedAnd(Target, Set) IOCSQ_INTERLOCKED(__atomic_fetch_and, Target, Set)
-#define InterlockedXor(Target, Set) IOCSQ_INTERLOCKED(__atomic_fetch_xor, Target, Set)
+    IOCSQ_INTERLOCKED(IOCSQ_EXCHANGE_POINTER, Target, Value)
+#define InterlockedExchange(Target, Value) IOCSQ_INTERLOCKED(IOCSQ_EXCHANGE, Target, Value)
+#define InterlockedExchange64(Target, Value) IOCSQ_INTERLOCKED(IOCSQ_EXCHANGE64, Target, Value)
+#define InterlockedIncrement(Addend) IOCSQ_INTERLOCKED(IOCSQ_ADD, Addend, 1)
+#define InterlockedIncrement64(Addend) IOCSQ_INTERLOCKED(IOCSQ_ADD64, Addend, 1)
+#define InterlockedDecrement(Addend) IOCSQ_INTERLOCKED(IOCSQ_ADD, Addend, -1)
+#define InterlockedDecrement64(Addend) IOCSQ_INTERLOCKED(IOCSQ_ADD64, Addend, -1)
+#define InterlockedExchangeAdd(Addend, Value) IOCSQ_INTERLOCKED(IOCSQ_FETCH_ADD, Addend, Value)
+#define InterlockedExchangeAdd64(Addend, Value) IOCSQ_INTERLOCKED(IOCSQ_FETCH_ADD64, Addend, Value)
+#define InterlockedAdd(Addend, Value) IOCSQ_INTERLOCKED(IOCSQ_ADD, Addend, Value)
+#define InterlockedOr(Target, Set) IOCSQ_INTERLOCKED(IOCSQ_FETCH_OR, Target, Set)
+#define InterlockedAnd(Target, Set) IOCSQ_INTERLOCKED(IOCSQ_FETCH_AND, Target, Set)
+#define InterlockedXor(Target, Set) IOCSQ_INTERLOCKED(IOCSQ_FETCH_XOR, Target, Set)
 #define InterlockedCompareExchange(Target, Value, Comparand) \
-    (IocsqPoint(), __sync_val_compare_and_swap((Target), (Comparand), (Value)))
-#define InterlockedCompareExchange64 InterlockedCompareExchange
-#define InterlockedCompareExchangePointer InterlockedCompareExchange
+    (IocsqPoint(), IOCSQ_COMPARE(Target, Value, Comparand))
+#define InterlockedCompareExchange64(Target, Value, Comparand) \
+    (IocsqPoint(), IOCSQ_COMPARE64(Target, Value, Comparand))
+#define InterlockedCompareExchangePointer(Target, Value, Comparand) \
+    (IocsqPoint(), IOCSQ_COMPARE_POINTER(Target, Value, Comparand))
 #define InterlockedBitTestAndSet(Base, Bit) \
     ((BOOLEAN)(InterlockedOr((Base), (LONG)(1U << ((Bit) & 31))) >> ((Bit) & 31) & 1))
 #define InterlockedBitTestAndReset(Base, Bit) \
@@ -93,13 +94,10 @@ VOID IocsqPoint(VOID); /* another thread may come between here */
 #define InterlockedCompareExchangeAcquire InterlockedCompareExchange
 #define InterlockedCompareExchangeRelease InterlockedCompareExchange
 #define InterlockedCompareExchangeNoFence InterlockedCompareExchange
-#define IOCSQ_READ(Source, order) (IocsqPoint(), __atomic_load_n((Source), order))
-#define IOCSQ_WRITE(Target, Value, order) \
-    (IocsqPoint(), __atomic_store_n((Target), (Value), order))
-#define ReadNoFence(Source) IOCSQ_READ(Source, __ATOMIC_RELAXED)
-#define ReadAcquire(Source) IOCSQ_READ(Source, __ATOMIC_ACQUIRE)
-#define WriteNoFence(Target, Value) IOCSQ_WRITE(Target, Value, __ATOMIC_RELAXED)
-#define WriteRelease(Target, Value) IOCSQ_WRITE(Target, Value, __ATOMIC_RELEASE)
+#define ReadNoFence(Source) (IocsqPoint(), IOCSQ_LOAD(Source))
+#define ReadAcquire(Source) (IocsqPoint(), IOCSQ_LOAD_ACQUIRE(Source))
+#define WriteNoFence(Target, Value) (IocsqPoint(), IOCSQ_STORE(Target, Value))
+#define WriteRelease(Target, Value) (IocsqPoint(), IOCSQ_STORE_RELEASE(Target, Value))
 #define ReadNoFence64 ReadNoFence
 #define ReadAcquire64 ReadAcquire
 #define WriteNoFence64 WriteNoFence

@@ -1,6 +1,7 @@
 /* Of iocsq.h: words of the WDK's headers that say nothing here. */
 #ifndef IOCSQ_WORDS_H
 #define IOCSQ_WORDS_H
+#include "compiler.h"
 
 /* ---- Of declarations ---- */
 #define NTAPI
@@ -13,12 +14,10 @@
 #define OPTIONAL
 #define FORCEINLINE static inline
 #define DECLSPEC_CACHEALIGN
-#define DECLSPEC_SELECTANY __attribute__((weak))
 #define NOTHING
-#ifndef __declspec /* clang may know it */
+#if !defined(__declspec) && !defined(_MSC_VER) /* clang may know it */
 #define __declspec(x)
 #endif
-#define __forceinline __inline__ __attribute__((__always_inline__))
 
 /* ---- sal.h: parameters ---- */
 #define _In_
@@ -104,7 +103,9 @@
 #define __deref_out
 #define __deref_out_opt
 #define __deref_inout
+#ifndef __aarch64__ /* whose headers of Linux have fields of this name */
 #define __reserved
+#endif
 #define __checkReturn
 #define __success(x)
 #endif

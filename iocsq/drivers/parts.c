@@ -18,7 +18,8 @@ typedef struct _EXTENSION {
     SLIST_HEADER Free;
     SLOT Slots[SLOTS];
     PKINTERRUPT Interrupt;
-    ULONG Come; /* under the interrupt's lock */
+    ULONG Come;      /* with the next under the interrupt's lock */
+    BOOLEAN Stopped; /* the device interrupts no more */
     KDPC Dpc;
     PEX_TIMER Timer;
 } EXTENSION, *PEXTENSION;
@@ -74,8 +75,17 @@ static BOOLEAN NTAPI Service(PKINTERRUPT Interrupt, PVOID ServiceContext) {
         UNREFERENCED_PARAMETER(Irp);
     }
 #endif
+    if (Extension->Stopped) {
+        return FALSE;
+    }
     Extension->Come++;
     KeInsertQueueDpc(&Extension->Dpc, NULL, NULL);
+    return TRUE;
+}
+
+static BOOLEAN NTAPI Stop(PVOID SynchronizeContext) {
+    PEXTENSION Extension = SynchronizeContext;
+    Extension->Stopped = TRUE;
     return TRUE;
 }
 
@@ -147,10 +157,12 @@ static NTSTATUS NTAPI Cleanup(PDEVICE_OBJECT DeviceObject, PIRP Irp) {
 /* ---- Its beginning and end ---- */
 static VOID NTAPI Unload(PDRIVER_OBJECT DriverObject) {
     PEXTENSION Extension = DriverObject->DeviceObject->DeviceExtension;
+    /* A DPC that is queued uses the interrupt. */
+    KeSynchronizeExecution(Extension->Interrupt, Stop, Extension);
+    KeFlushQueuedDpcs();
 #if WRONG != 8
     IoDisconnectInterrupt(Extension->Interrupt);
 #endif
-    KeFlushQueuedDpcs();
 #if WRONG == 5
     ExCancelTimer(Extension->Timer, NULL);
     KeFlushQueuedDpcs();

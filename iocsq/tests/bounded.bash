@@ -4,26 +4,35 @@
 # The bounded mode by itself: as many schedules as there are; runs by priorities, against their bound; and the check of
 # data races, access by access.
 run_explore() {
-  local objects program arguments
-  if ! objects=$(iocsq_objects "$@" 2>"$work/errors"); then
-    fail "$* explore: not compiled" "$work/errors"
-    return
-  fi
-  for program in explore priorities races arena; do
-    "$@" "$objects"/*.o "$objects/tests/$program.o" "${library[@]:-$objects/libcsq_plain.a}" \
-      "${wraps[@]}" -pthread -o "$work/$program" 2>"$work/errors" || fail "$* $program: not linked" "$work/errors"
+  local program programs=(explore races) arguments status text
+  if [[ $* != *sanitize* ]]; then programs+=(arena priorities limits); fi
+  for program in "${programs[@]}"; do
+    iocsq_link "$work/$program" "$program" -- "$@" 2>"$work/errors" || fail "$* $program: not linked" "$work/errors"
   done
   for arguments in "1 5 2" "2 3 0" "2 3 1" "2 3 2" "2 4 3" "3 3 1" "3 4 2" "2 3 8"; do
     read -ra numbers <<<"$arguments"
     expect "$* explore: threads, points, preemptions $arguments" "$work/explore" "${numbers[@]}"
+    keep_run - - explore "" 0 PROGRAM "${numbers[@]}"
   done
   expect "$* races: each case" "$work/races"
+  keep_run - - races "" 0 quiet PROGRAM
   if [[ $* == *sanitize* ]]; then return; fi # each run would be a process; and the sanitizer has the memory
   expect "$* arena: the memory of a run" "$work/arena"
+  keep_run - - arena "" 0 PROGRAM
   for arguments in "3 1000" "12 4000"; do
     read -ra numbers <<<"$arguments"
     expect "$* priorities: points, runs $arguments" "$work/priorities" "${numbers[@]}"
+    keep_run - - priorities "" 0 PROGRAM "${numbers[@]}"
   done
+  while read -r arguments status text; do
+    expect "$* limits: $arguments" ends_so "$status" "$text" "" "$work/limits" "$arguments"
+    keep_run - - limits "" "$status" PROGRAM "$arguments"
+  done <<END
+free 0 ^each thread has its own$
+turns 0 ^each thread has its own$
+search 0 ^status $disagrees, then 0$
+limit $disagrees ^iocsq: the run takes longer than it may
+END
 }
 
 # ends_with LINE COMMAND..: it ends well, and LINE is a pattern for its last line.
@@ -66,14 +75,14 @@ same_classes() {
 # are as many.
 run_bounded_right() {
   local driver number program=$work/bounded count scenarios=$top/iocsq/scenarios
-  for driver in "${drivers[@]}" "${usual[@]}" "${hand[@]}" "${kmdf[@]}" "${unusual[@]}" "${races[@]}" races/start:50 \
-    races/start:51 races/drain:5{0,1,2,3} races/table:50; do
-    number=0
-    if [[ $driver == *:* ]]; then number=${driver#*:}; fi
+  for driver in "${right[@]}"; do
+    number=$(iocsq_number "$driver")
     if ! TEST=bounded iocsq_build "$program" "${driver%:*}" "$number" "${compilers[0]}" -O1 2>"$work/errors"; then
       fail "bounded, $driver: not compiled" "$work/errors"
     else
       expect "bounded, $driver: at most 1 preemption" runs_all "1 preemption" "$program" 1 \
+        "$scenarios"/{cancel-insert,close-insert,meet,two-writes,control-wait,control-write}.txt
+      keep_run "${driver%:*}" "$number" bounded "" - PROGRAM 1 \
         "$scenarios"/{cancel-insert,close-insert,meet,two-writes,control-wait,control-write}.txt
       expect "classes of $driver: cancel-insert" same_classes "$program" 1 "$scenarios/cancel-insert.txt"
       expect "classes of $driver: close-insert" same_classes "$program" 1 "$scenarios/close-insert.txt"
@@ -119,7 +128,7 @@ run_counts() {
     return
   fi
   expect "the schedules of ${#small[@]} drivers are as many as DRIVERS says" diff "$work/table" \
-    <("$top/iocsq/count-schedules" "${small[@]}")
+    <(IOCSQ_OBJECTS=$work/objects "$top/iocsq/count-schedules" "${small[@]}")
 }
 
 # bounded_wrong PROGRAM SCENARIO PREEMPTIONS TEXT: a wrong driver's schedule with so many preemptions, and none with
@@ -151,18 +160,19 @@ run_bounded_wrong() {
     if TEST=bounded iocsq_build "$work/bounded" "$driver" "$number" "$@" 2>"$work/errors"; then
       expect "bounded, $driver $number: $scenario, $preemptions preemptions" bounded_wrong "$work/bounded" \
         "$top/iocsq/scenarios/$scenario.txt" "$preemptions" "$text"
+      keep_run "$driver" "$number" bounded "" - both_of PROGRAM 2 "$top/iocsq/scenarios/$scenario.txt"
     else
       fail "bounded, $driver $number: not compiled" "$work/errors"
     fi
   done <"$rows"
 }
 
-# remembers PROGRAM LINE STATUS: with its wrong schedule in the scenario the program prints LINE first, and ends so.
+# remembers PROGRAM SCENARIO LINE STATUS: with its schedule in the scenario the program prints LINE first, and ends so.
 remembers() {
-  "$1" 0 "$work/remembered.txt" >"$work/said" 2>"$work/report"
+  "$1" 0 "$2" >"$work/said" 2>"$work/report"
   local status=$?
   cat "$work/said" "$work/report"
-  head -1 "$work/said" | grep -qxF -- "$work/remembered.txt: schedule $2" && ((status == $3))
+  head -1 "$work/said" | grep -qxF -- "$2: schedule $3" && ((status == $4))
 }
 
 # stops PROGRAM SCHEDULE: the call before the last one of a report is where a debugger would look.
@@ -173,21 +183,23 @@ stops() {
 
 # A scenario that names the schedule which was wrong once: before the mend, after it, and once it is another test.
 run_remembered() {
-  local schedule number
+  local schedule number scenario=$work/remembered.txt stale=$work/stale.txt
   for number in 0 1; do
     TEST=bounded iocsq_build "$work/remembered$number" hand/own $number "$@" 2>"$work/errors" ||
       fail "bounded, hand/own $number: not compiled" "$work/errors"
   done
-  cp "$top/iocsq/scenarios/cancel-removal.txt" "$work/remembered.txt"
-  schedule=$("$work/remembered1" 1 "$work/remembered.txt" 2>/dev/null | sed -nE 's/.*--schedule ([0-9:,]+) shows.*/\1/p')
-  echo "schedule $schedule" >>"$work/remembered.txt"
-  expect "bounded: a schedule of the scenario" remembers "$work/remembered1" "$schedule is wrong again" "$disagrees"
-  expect "bounded: the schedule, once mended" remembers "$work/remembered0" "$schedule: nothing is wrong in it any more" 0
+  cp "$top/iocsq/scenarios/cancel-removal.txt" "$scenario"
+  schedule=$("$work/remembered1" 1 "$scenario" 2>/dev/null | sed -nE 's/.*--schedule ([0-9:,]+) shows.*/\1/p')
+  echo "schedule $schedule" >>"$scenario"
+  expect "bounded: a schedule of the scenario" remembers "$work/remembered1" "$scenario" "$schedule is wrong again" "$disagrees"
+  keep_run hand/own 1 bounded "" "$disagrees" both_of PROGRAM 0 "$scenario"
+  expect "bounded: the schedule, once mended" remembers "$work/remembered0" "$scenario" \
+    "$schedule: nothing is wrong in it any more" 0
   expect "bounded: a stop for a debugger" stops "$work/remembered1" "$schedule"
-  sed -i 's/^schedule .*/schedule 900:1/' "$work/remembered.txt"
-  expect "bounded: another test's schedule" remembers "$work/remembered0" "900:1 is no longer one of this test" 0
-  echo "schedule x" >>"$work/remembered.txt"
-  expect "bounded: no schedule" refused "remembered.txt:7: a second schedule: x" "$work/remembered0" 0 "$work/remembered.txt"
+  sed 's/^schedule .*/schedule 900:1/' "$scenario" >"$stale"
+  expect "bounded: another test's schedule" remembers "$work/remembered0" "$stale" "900:1 is no longer one of this test" 0
+  echo "schedule x" >>"$stale"
+  expect "bounded: no schedule" refused "stale.txt:7: a second schedule: x" "$work/remembered0" 0 "$stale"
 }
 
 # drawn_wrong PROGRAM SCENARIO TEXT: a run by priorities has this report, and the same when it is run alone.
@@ -212,7 +224,8 @@ run_drawn() {
       "close-insert.txt: 200 runs of depth 3, 3 threads, ([0-9]+) steps: .* at least 1 in [0-9]+$" "$work/said"
   TEST=bounded iocsq_build "$program" drivers/manners 6 "$@" &&
     expect "priorities: a wrong driver" drawn_wrong "$program" "$scenarios/close-insert.txt" \
-      "went into the queue after IRP_MJ_CLEANUP of its file"
+      "went into the queue after IRP_MJ_CLEANUP of its file" &&
+    keep_run drivers/manners 6 bounded "" "$disagrees" both_of PROGRAM --depth 3 3000 "$scenarios/close-insert.txt"
 }
 
 # What a scenario can't say is named, with its line.

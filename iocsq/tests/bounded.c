@@ -31,11 +31,7 @@
  * objects are closed, and the driver is unloaded. Where its policy says which requests may wait
  * (Waits), each has to end before that, as in patient.c.
  */
-#define _POSIX_C_SOURCE 200809L
 #include "levels.h"
-
-#include <sys/wait.h>
-#include <unistd.h>
 
 enum { THREADS = 3, CALLS = 16, FILES = 8, REQUESTS = 16, NAME = 16, LINE = 256 };
 enum { BYTES = 16, LENGTH = 2, PATIENCE = 2000 };
@@ -393,25 +389,14 @@ static void run(void *context) {
 }
 
 /* In a process of its own, whose variables and reports are no other run's. */
-static int status_of_remembered(void) {
-    int status = 0;
-    fflush(NULL); /* what is buffered isn't each process's */
-    pid_t child = fork();
-    if (child == 0) {
-        IocsqReplay(run, NULL, remembered);
-        _exit(0);
-    }
-    if (child < 0 || waitpid(child, &status, 0) < 0) {
-        perror("bounded: no process for a schedule");
-        exit(1);
-    }
-    return WIFEXITED(status) ? WEXITSTATUS(status) : 128 + WTERMSIG(status);
+static void run_remembered_apart(void *of) {
+    IocsqReplay(run, NULL, of);
 }
 
 static void run_remembered(const char *path) {
     read_scenario(path);
-    int status = remembered[0] ? status_of_remembered() : 0;
-    if (status == 128 + SIGABRT) {
+    int status = remembered[0] ? iocsq_run_apart(run_remembered_apart, remembered) : 0;
+    if (status == IOCSQ_ABORTED) {
         printf("%s: schedule %s is no longer one of this test\n", path, remembered);
     } else if (status != 0) {
         printf("%s: schedule %s is wrong again\n", path, remembered);

@@ -26,6 +26,41 @@ static void events(void) {
     CHECK(KeReadStateEvent(&stays) == 0);
 }
 
+/* How many milliseconds have passed since this time. */
+static LONGLONG since(ULONGLONG begun) {
+    return (LONGLONG)(KeQueryInterruptTime() - begun) / 10000;
+}
+
+static KEVENT waited_for;
+static NTSTATUS waited;
+
+static void *wait_long(void *of) {
+    waited = wait_for(&waited_for, 20000);
+    return of;
+}
+
+/* A wait ends at its time, which is far from another unit's; or sooner, but not because of another
+ * event. A system's tick is at most 16 milliseconds. */
+static void times(void) {
+    KEVENT other;
+    LARGE_INTEGER delay = after_milliseconds(60);
+    ULONGLONG begun = KeQueryInterruptTime();
+    KeInitializeEvent(&other, SynchronizationEvent, FALSE);
+    KeInitializeEvent(&waited_for, NotificationEvent, FALSE);
+    CHECK(wait_for(&other, 60) == STATUS_TIMEOUT && since(begun) >= 40 && since(begun) < 10000);
+    begun = KeQueryInterruptTime();
+    CHECK(KeDelayExecutionThread(KernelMode, FALSE, &delay) == STATUS_SUCCESS);
+    CHECK(since(begun) >= 40 && since(begun) < 10000);
+    begun = KeQueryInterruptTime();
+    IOCSQ_THREAD thread = IocsqThread(wait_long, NULL);
+    IocsqPause(30000);
+    KeSetEvent(&other, IO_NO_INCREMENT, FALSE);
+    IocsqPause(30000);
+    KeSetEvent(&waited_for, IO_NO_INCREMENT, FALSE);
+    IocsqJoin(thread);
+    CHECK(waited == STATUS_SUCCESS && since(begun) < 10000);
+}
+
 static void mutexes(void) {
     KMUTEX mutex;
     KeInitializeMutex(&mutex, 0);
@@ -73,30 +108,6 @@ static void locks(void) {
     KeReleaseSpinLockFromDpcLevel(&lock);
     KeLowerIrql(before);
     CHECK(KeGetCurrentIrql() == PASSIVE_LEVEL);
-}
-
-struct counted {
-    KSPIN_LOCK lock;
-    int threads;
-};
-
-static void *count_thread(void *context) {
-    struct counted *counted = context;
-    KIRQL before;
-    KeAcquireSpinLock(&counted->lock, &before);
-    counted->threads++;
-    KeReleaseSpinLock(&counted->lock, before);
-    return NULL;
-}
-
-/* Many more, one after another, than there may be at a time. */
-static void threads(void) {
-    struct counted counted = { .threads = 0 };
-    KeInitializeSpinLock(&counted.lock);
-    for (int at = 0; at < 1200; at++) {
-        IocsqJoin(IocsqThread(count_thread, &counted));
-    }
-    CHECK(counted.threads == 1200);
 }
 
 static void remove_locks(void) {
@@ -472,10 +483,10 @@ static void put_backs(void) {
 int main(int argc, char **argv) {
     begin(argc, argv);
     RUN(events);
+    RUN(times);
     RUN(mutexes);
     RUN(several_objects);
     RUN(locks);
-    RUN(threads);
     RUN(remove_locks);
     RUN(timers_and_dpcs);
     RUN(work_items);

@@ -2,11 +2,10 @@
  * `read_scenario` for it. */
 #ifndef LEVELS_H
 #define LEVELS_H
+#include "../system.h"
 #include "program.h"
 
-#include <signal.h>
 #include <string.h>
-#include <time.h>
 
 #define USAGE                                                                                      \
     "bounded [OPTION..] [--seconds N] PREEMPTIONS SCENARIO.., bounded [OPTION..] --depth DEPTH "   \
@@ -26,9 +25,7 @@ static const char *preemptions_of(ULONG count) {
 }
 
 static double seconds(void) {
-    struct timespec now;
-    clock_gettime(CLOCK_MONOTONIC, &now);
-    return (double)now.tv_sec + (double)now.tv_nsec / 1e9;
+    return (double)iocsq_clock() / 1e9;
 }
 
 /* What came of the scenarios with at most so many preemptions. */
@@ -50,7 +47,7 @@ static void check_explored(const char *path, const IOCSQ_EXPLORED *explored, ULO
     if (explored->Status == 0) {
         return;
     }
-    bool itself = explored->Status == 128 + SIGABRT;
+    bool itself = explored->Status == IOCSQ_ABORTED;
     if (itself) {
         printf("%s: iocsq itself ended schedule %llu\n", path,
                (unsigned long long)explored->Schedules);

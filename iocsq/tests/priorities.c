@@ -1,12 +1,11 @@
 /* Runs by priorities, against the bound that is said of them: one thread passes POINTS points,
  * another a single one. That it comes just after the K-th of the others is a fault of depth 2, and
  * each K has to come in as many runs as the bound has it: priorities POINTS RUNS. */
-#define _GNU_SOURCE
 #include "iocsq_test.h"
+#include "system.h"
 
 #include <stdio.h>
 #include <stdlib.h>
-#include <sys/mman.h>
 
 enum { POINTS = 64 };
 
@@ -39,8 +38,7 @@ int main(int argc, char **argv) {
     if (argc < 3 || (points = atoi(argv[1])) >= POINTS) {
         return 2;
     }
-    hits = mmap(NULL, POINTS * sizeof *hits, PROT_READ | PROT_WRITE, MAP_SHARED | MAP_ANONYMOUS, -1,
-                0);
+    hits = iocsq_map_shared(POINTS * sizeof *hits, "no memory for what was hit");
     IocsqBounded();
     IOCSQ_EXPLORED explored = IocsqDraw(run, NULL, 2, (ULONG)atoi(argv[2]));
     unsigned long long least = explored.Schedules / (explored.Threads * explored.Steps), few = 0;

@@ -1,12 +1,10 @@
 /* The check of data races by itself, access by access: each case is a process, and ends with a
  * report where it is a race. */
-#define _GNU_SOURCE
 #include "internal.h"
 
+#include <errno.h>
 #include <stdio.h>
 #include <stdlib.h>
-#include <sys/wait.h>
-#include <unistd.h>
 
 /* As a driver calls them. */
 void __tsan_init(void);
@@ -112,6 +110,9 @@ static void new_memory(void) {
     iocsq_end_memory(cells, 8, "ExFreePool", cells), iocsq_begin_memory(cells, 8), other();
     writes(0, 8);
 }
+static void own_errno(void) {
+    __tsan_memset(&errno, 0, sizeof errno), other(), __tsan_memset(&errno, 0, sizeof errno);
+}
 static void unreported(void) {
     level = 3;
 }
@@ -130,7 +131,7 @@ static const struct test cases[] = {
     RACE(compound),          RACE(filled),            RACE(copied_from),
     NONE(other_bytes),       NONE(released),          NONE(acquired),        NONE(on_purpose),
     NONE(flag),              NONE(published),         NONE(flag_of_new_memory),
-    NONE(new_memory),        NONE(unreported),
+    NONE(new_memory),        NONE(own_errno),         NONE(unreported),
 };
 
 /* In a process of its own. */
@@ -149,18 +150,13 @@ static int run(const struct test *of) {
     return EXIT_SUCCESS;
 }
 
-static int status_of(const struct test *of) {
-    int status;
-    pid_t child = fork();
-    if (child == 0) {
-        _exit(freopen("/dev/null", "w", stderr) ? run(of) : EXIT_FAILURE);
-    }
-    return waitpid(child, &status, 0) == child && WIFEXITED(status) ? WEXITSTATUS(status) : -1;
+static void run_apart(void *of) {
+    iocsq_exit(run(of));
 }
 
 int main(void) {
     for (size_t at = 0; at < sizeof cases / sizeof *cases; at++) {
-        int status = status_of(&cases[at]);
+        int status = iocsq_run_apart(run_apart, (void *)(uintptr_t)&cases[at]);
         if (status != (cases[at].is_race ? IOCSQ_DISAGREES : 0)) {
             printf("%s: status %d\n", cases[at].name, status);
             return EXIT_FAILURE;

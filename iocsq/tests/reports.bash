@@ -50,7 +50,7 @@ run_begun_again() {
 
 # The same of the patient test.
 run_idle() {
-  local objects idle=$work/idle
+  local driver_objects idle=$work/idle
   cat >"$idle.c" <<'END'
 #include "iocsq_test.h"
 extern const IOCSQ_POLICY DriverPolicy;
@@ -59,8 +59,8 @@ END
   TEST=patient iocsq_build "$idle" drivers/workers 4 "$@" &&
     expect "patient: nothing was inserted" ends_so "$nothing" "^inserted 0, " \
       "^iocsq: nothing was inserted: no request reached a queue" "$idle" 3 20 1
-  objects=$(iocsq_objects "$@") && "$@" -std=c11 "${warnings[@]}" -I"$top/include" "$objects"/*.o \
-    "$objects/tests/patient.o" "$idle.c" "$idle.driver.o" "${library[@]:-$objects/libcsq_plain.a}" -pthread -o "$idle" &&
+  "$@" -std=c11 "${warnings[@]}" -I"$top/include" -c "$idle.c" -o "$idle.o" && compile_driver drivers/workers 4 "$@" &&
+    iocsq_link "$idle" patient "$idle.o" "${driver_objects[0]}" -- "$@" &&
     expect "patient: nothing was inserted, as the policy says" ends_so 0 "^inserted 0, " "" "$idle" 3 20 1
 }
 
@@ -86,11 +86,12 @@ never_peeked() {
 # Where a report comes from: the driver's lines, and those of what it did last where it isn't at work any more; the
 # history of an IRP whose last call was long ago; a bad address by either signal.
 run_places() {
-  local storm=$work/placed objects
+  local storm=$work/placed
   need addr2line "places" || return
   iocsq_build "$storm" drivers/reports 5 "$@" &&
     expect "places: the driver's calls" ends_so "$disagrees" "^  at reports.c:[0-9]+, in Finish$" \
-      "^  called by reports.c:[0-9]+, in DispatchRead$" "$storm" 6 3000 1 turns
+      "^  called by reports.c:[0-9]+, in DispatchRead$" "$storm" 6 3000 1 turns &&
+    keep_run drivers/reports 5 storm -g "$disagrees" PROGRAM 6 3000 1 turns
   iocsq_build "$storm" drivers/slots 1 "$@" &&
     expect "places: the callback before" ends_so "$disagrees" "^  the callback at slots.c:[0-9]+, in RemoveSlot$" \
       "answered irp [0-9]+, and skipped irp" "$storm" 6 3000 1 turns
@@ -104,6 +105,7 @@ run_places() {
     expect "places: where the cancel routine was set" ends_so "$disagrees" \
       "^iocsq: t[0-9]+: irp [0-9]+: the driver doesn't look at Irp->Cancel after it has set the cancel routine: " \
       "^  The cancel routine was set at own.c:[0-9]+, in (Queue|Read)$" "$storm" 6 3000 1 turns &&
+    keep_run hand/own 2 storm -g "$disagrees" PROGRAM 6 3000 1 turns &&
     expect "places: the threads of a schedule" grep -qE "^    # p1: t[0-9]+, in IRP_MJ_READ$" "$work/said"
   iocsq_build "$storm" drivers/keys 5 "$@" &&
     expect "places: a queue that is never used" ends_so "$nothing" "^iocsq: nothing was inserted \\(queues of kind 2\\): " \
@@ -117,12 +119,12 @@ run_places() {
   iocsq_build "$storm" usual/idle 2 "$@" && expect "peeks: the device isn't idle by iocsq's own" "$storm" 6 3000 1 turns
   iocsq_build "$storm" drivers/filter 3 "$@" &&
     expect "places: a bad address" ends_so 139 "^iocsq: t[0-9]+: the driver used a bad address$" \
-      "^  (called by|at) filter.c:[0-9]+, in PassOn$" "$storm" 6 3000 1 turns
+      "^  (called by|at) filter.c:[0-9]+, in PassOn$" "$storm" 6 3000 1 turns &&
+    keep_run drivers/filter 3 storm -g 139 PROGRAM 6 3000 1 turns
   sed 's/^    PEXTENSION Extension = DeviceObject->.*/&\n    extern int raise(int); raise(7);/' \
     "$top/iocsq/skeleton/driver.c" >"$work/bus.c"
-  objects=$(iocsq_objects "$@") && "$@" -std=c11 -w -I"$top/include/wdk" -c "$work/bus.c" -o "$work/bus.o" &&
-    "$@" "$objects"/*.o "$objects/tests/storm.o" "$work/bus.o" "${library[@]:-$objects/libcsq_plain.a}" -pthread \
-      -o "$storm" && expect "places: SIGBUS" ends_so 135 "^iocsq: t[0-9]+: the driver used a bad address$" \
+  "$@" -std=c11 -w -I"$top/include/wdk" -c "$work/bus.c" -o "$work/bus.o" &&
+    iocsq_link "$storm" storm "$work/bus.o" -- "$@" && expect "places: SIGBUS" ends_so 135 "^iocsq: t[0-9]+: the driver used a bad address$" \
       "^  (called by|at) bus.c:[0-9]+, in DispatchRead$" "$storm" 6 3000 1 turns
   iocsq_build "$storm" drivers/busy 2 "$@" &&
     expect "places: the history of an IRP that was never completed" ends_so "$disagrees" "and was never completed$" \
