@@ -52,13 +52,23 @@ set_folder() {
   folder=${IOCSQ_OBJECTS:-$work/objects}/${name//[^A-Za-z0-9]/_}
 }
 
+# How far the checker's own files are optimized without a sanitizer, whatever a driver is: so the runs take less time, and
+# drivers of several levels share them.
+own_level=-O2
+
 # Sets `own` to the command for the checker's own files: set_own COMPILER FLAG.. No report has their lines (-g) but a
 # sanitizer's, for which few are enough.
 set_own() {
-  local flag
+  local flag sanitized=''
+  if [[ $* == *sanitize* ]]; then sanitized=1; fi
   own=()
   for flag; do
-    if [[ $flag != -g ]]; then own+=("$flag"); elif [[ $* == *sanitize* ]]; then own+=(-g1); fi
+    case $flag${sanitized:+ sanitized} in
+      -g) ;;
+      -O[12]) own+=("$own_level") ;;
+      "-g sanitized") own+=(-g1) ;;
+      *) own+=("$flag") ;;
+    esac
   done
 }
 
@@ -89,8 +99,10 @@ iocsq_link() {
   for file in "$top"/iocsq/*.c "$top/iocsq/tests/$test.c"; do
     compile_own "${file%.c}" || return 1
   done
+  # Linked with each other once: then each program takes less time.
+  make_once "$folder/linked/iocsq.o" "$1" -r -nostdlib "$folder"/*.o || return 1
   make_plain || return 1
-  "${LINKER:-$1}" "${@:2}" "$folder"/*.o "$folder/tests/$test.o" "${files[@]}" \
+  "${LINKER:-$1}" "${@:2}" "$folder/linked/iocsq.o" "$folder/tests/$test.o" "${files[@]}" \
     "${library[@]:-$folder/plain/libcsq.a}" "${wraps[@]}" -pthread -o "$program"
 }
 

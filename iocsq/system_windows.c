@@ -340,13 +340,13 @@ static uintptr_t code_begin(void) {
 enum { COMMAND = 2048, ADDRESS = 24, TRIES = 1000, PAUSE = 10, WAIT = 10000 };
 #define LAST "7fffffff"
 
-/* The tool of binutils, called in the program's folder; and last an address that it doesn't
- * know. */
+/* The tool of binutils, called in the program's folder; and last an address that it doesn't know.
+ * An empty name is of no tool: each of the words that follow would be looked for as a program. */
 static bool make_command(char *command, char *folder, const uintptr_t *addresses, size_t count) {
     const char *tool = getenv("IOCSQ_ADDR2LINE");
     DWORD length = GetModuleFileNameA(NULL, folder, MAX_PATH);
     char *name = length < MAX_PATH ? strrchr(folder, '\\') : NULL;
-    if (!name) {
+    if (!name || (tool && !*tool)) {
         return false;
     }
     *name++ = '\0';

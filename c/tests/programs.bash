@@ -1,10 +1,11 @@
 # The test programs of the C library, for c/run-tests and c/run-targets: source this after c/library.bash and
 # c/tests/report.bash. `compilers` names the C compilers; `library` has the files to link, unless `plain` is set; `runs` is
-# what runs a program that this system doesn't, and `omitted` names the tests that aren't for that system.
+# what runs a program that this system doesn't, and `omitted` names the tests that aren't for that system. `level` is the
+# optimization of the tests, if it isn't the library's.
 # shellcheck disable=SC2034,SC2154 # the scripts set and use these, and make `work`
 warnings=(-Wall -Wextra -Wpedantic -Wshadow -Werror)
 wrapped=(malloc calloc realloc free aligned_alloc posix_memalign)
-plain='' library=() files=() runs=() omitted=''
+plain='' library=() files=() runs=() omitted='' level=()
 
 # The names of the calls of headers and of those that they include, sorted: names_of_calls HEADER..
 names_of_calls() {
@@ -78,7 +79,8 @@ run_test() {
   shift 3
   if [[ " $omitted " == *" $name "* ]]; then return; fi
   mapfile -t flags < <(flags_of "$name")
-  if ! "$@" "${warnings[@]}" -I"$top/include" "$file" "${files[@]}" "${flags[@]}" -o "$work/test.exe" 2>"$work/errors"; then
+  if ! "$@" "${level[@]}" "${warnings[@]}" -I"$top/include" "$file" "${files[@]}" "${flags[@]}" -o "$work/test.exe" \
+    2>"$work/errors"; then
     fail "$variant: $name was not compiled" "$work/errors"
     return
   fi

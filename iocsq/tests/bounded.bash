@@ -117,18 +117,18 @@ run_classes() {
   done
 }
 
-# The rows of the table in docs/DRIVERS.md with fewer than 3,000 schedules: they are counted again.
+# The rows of the table in docs/IOCSQ.md with fewer than 3,000 schedules: they are counted again.
 run_counts() {
   local -a small
   need gcc "the table of schedules" || return
-  awk '/^\| [a-z]+\/[a-z]+ \| 3 \| [0-9]+ \| [0-9]+ \|$/ && $6 < 3000' "$top/docs/DRIVERS.md" >"$work/table"
+  awk '/^\| [a-z]+\/[a-z]+ \| 3 \| [0-9]+ \| [0-9]+ \|$/ && $6 < 3000' "$top/docs/IOCSQ.md" >"$work/table"
   mapfile -t small < <(awk '{ print $2 }' "$work/table")
   if ((${#small[@]} == 0)); then
     fail "the table of schedules has no row that is counted again"
     return
   fi
   expect "the schedules of ${#small[@]} drivers are as many as DRIVERS says" diff "$work/table" \
-    <(IOCSQ_OBJECTS=$work/objects "$top/iocsq/count-schedules" "${small[@]}")
+    <(IOCSQ_OBJECTS=${IOCSQ_OBJECTS:-$work/objects} "$top/iocsq/count-schedules" "${small[@]}")
 }
 
 # bounded_wrong PROGRAM SCENARIO PREEMPTIONS TEXT: a wrong driver's schedule with so many preemptions, and none with

@@ -10,7 +10,7 @@ watched_calls=(IocsqShared iocsq_begin_trace iocsq_begin_transition iocsq_choose
   iocsq_part_of_thread iocsq_report_race iocsq_touch iocsq_touch_clock iocsq_wait_in_turns)
 
 # The flags of the files whose accesses come to tests/touches.c.
-watched_flags=(-fsanitize=thread '-DIOCSQ_COMMUTES=__attribute__((no_sanitize("thread")))'
+watched_flags=(-fsanitize=thread -DCSQ_NO_TSAN '-DIOCSQ_COMMUTES=__attribute__((no_sanitize("thread")))'
   '-DIOCSQ_ADDS=__attribute__((section("iocsq_adds"), noinline))'
   -Dmemcpy=__tsan_memcpy -Dmemmove=__tsan_memmove -Dmemset=__tsan_memset)
 
@@ -77,7 +77,7 @@ run_touches() {
     fi
   done
   for driver in removal:usual/pass waits:drivers/slots; do
-    objcopy --redefine-sym iocsq_touch=own_release "$watched/${driver%:*}.o" # which does nothing
+    objcopy --redefine-sym iocsq_touch=own_init "$watched/${driver%:*}.o" # which does nothing
     watch_driver "$program" "${driver#*:}" 0 "$@" &&
       expect "touches: those of ${driver%:*}.c are left out" ends_so 1 "and no touch orders the two" " 1 wrong$" \
         "$program" 1 "${small[@]}"

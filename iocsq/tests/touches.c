@@ -8,6 +8,7 @@
  * thread does between two choices of who is next: all of its touches count for all that it does. */
 #define _GNU_SOURCE
 #include "internal.h"
+#include "keys.h"
 #include "system.h"
 
 #include <stdlib.h>
@@ -16,8 +17,7 @@
 #define TSAN(name) own_##name
 #include "stubs.h"
 
-enum { THREADS = 32, OBJECTS = 1 << 14, TOUCHES = 1 << 10 };
-enum { CELLS = 1 << 18, RECORDS = 1 << 20, WORD = 8 };
+enum { THREADS = 32, TOUCHES = 1 << 10, RECORDS = 1 << 20, WORD = 8 };
 enum kind { READ, WRITTEN, ADDED_TO, KINDS };
 
 /* The last transition of each thread that came before. */
@@ -26,8 +26,6 @@ struct clock {
 };
 /* What is touched, as in traces.c. */
 struct object {
-    const void *at;
-    uint32_t run;
     struct clock changed, looked;
 };
 /* A thread's last access of a kind to some bytes of a word. */
@@ -39,8 +37,6 @@ struct record {
     uint8_t bytes; /* a bit for each */
 };
 struct cell {
-    const void *word;
-    uint32_t run;
     struct record *records;
     struct cell *next; /* accessed in the present transition, in these bytes: */
     uint8_t bytes[KINDS];
@@ -48,7 +44,7 @@ struct cell {
 };
 /* Outside of the variables that each run begins with anew. */
 static struct watch {
-    uint32_t run, record_count, touch_count;
+    uint32_t record_count, touch_count;
     bool is_watching; /* otherwise a thread chooses who is next, for which it looks at all */
     uint32_t transitions[THREADS];
     struct clock clocks[THREADS];
@@ -57,8 +53,9 @@ static struct watch {
         bool changes;
     } touches[TOUCHES]; /* of the present transition */
     struct cell *accessed;
-    struct object objects[OBJECTS];
-    struct cell cells[CELLS];
+    struct iocsq_keys object_keys, words;
+    struct object objects[IOCSQ_KEYS];
+    struct cell cells[IOCSQ_KEYS];
     struct record records[RECORDS];
 } *watch;
 
@@ -73,35 +70,36 @@ __attribute__((constructor(101))) static void begin_watch(void) {
     if (watch == MAP_FAILED) {
         give_up("no memory");
     }
-    watch->run = 1;
+}
+
+/* The number of an address in a run. Whether it is new is whether there are more than before. */
+static uint32_t number_of(struct iocsq_keys *keys, const void *at, const char *too_many) {
+    uint64_t key = (uintptr_t)at;
+    uint32_t number = iocsq_number_of_key(keys, key, iocsq_mix(key, 1), true);
+    if (number == IOCSQ_TOO_MANY) {
+        give_up(too_many);
+    }
+    return number;
 }
 
 static struct object *object_at(const void *at) {
-    uint64_t hash = iocsq_mix((uintptr_t)at, 1);
-    for (uint64_t look = 0; look < OBJECTS; look++) {
-        struct object *o = &watch->objects[(hash + look) % OBJECTS];
-        if (o->run != watch->run) {
-            *o = (struct object){ .at = at, .run = watch->run };
-        }
-        if (o->at == at) {
-            return o;
-        }
+    uint32_t before = watch->object_keys.count;
+    struct object *o =
+        &watch->objects[number_of(&watch->object_keys, at, "a run that touches too many objects")];
+    if (watch->object_keys.count > before) {
+        *o = (struct object){ 0 };
     }
-    give_up("a run that touches too many objects");
+    return o;
 }
 
 static struct cell *cell_of(const void *word) {
-    uint64_t hash = iocsq_mix((uintptr_t)word, 2);
-    for (uint64_t look = 0; look < CELLS; look++) {
-        struct cell *c = &watch->cells[(hash + look) % CELLS];
-        if (c->run != watch->run) {
-            *c = (struct cell){ .word = word, .run = watch->run };
-        }
-        if (c->word == word) {
-            return c;
-        }
+    uint32_t before = watch->words.count;
+    struct cell *c =
+        &watch->cells[number_of(&watch->words, word, "a run that accesses too much memory")];
+    if (watch->words.count > before) {
+        *c = (struct cell){ 0 };
     }
-    give_up("a run that accesses too much memory");
+    return c;
 }
 
 /* ---- Accesses of the present transition ---- */
@@ -162,13 +160,6 @@ static void access_atomic(const volatile void *of, size_t size, enum atomic did,
 }
 
 void own_init(void) {
-}
-/* As csq.h tells the sanitizer what its library orders. */
-void own_acquire(const void *at) {
-    (void)at;
-}
-void own_release(const void *at) {
-    (void)at;
 }
 void own_atomic_thread_fence(int order) {
     (void)order;
@@ -261,16 +252,16 @@ static void check_kind(struct cell *c, enum kind kind, uint32_t thread) {
             report(c, r, kind, thread);
         }
     }
-    if (c->bytes[kind]) {
-        keep(c, kind, thread);
-        c->bytes[kind] = 0;
-    }
+    keep(c, kind, thread);
+    c->bytes[kind] = 0;
 }
 
 static void end_accesses(uint32_t thread) {
     for (struct cell *c = watch->accessed; c; c = c->next) {
         for (enum kind kind = READ; kind < KINDS; kind++) {
-            check_kind(c, kind, thread);
+            if (c->bytes[kind]) {
+                check_kind(c, kind, thread);
+            }
         }
     }
     watch->accessed = NULL;
@@ -347,7 +338,8 @@ WRAPPED(void, iocsq_begin_trace, (void)) {
     if (watch->is_watching) { /* the run before has come to its end, in which nobody chose */
         end_transition();
     }
-    watch->run++;
+    iocsq_forget_keys(&watch->object_keys);
+    iocsq_forget_keys(&watch->words);
     watch->record_count = watch->touch_count = 0;
     watch->accessed = NULL;
     memset(watch->transitions, 0, sizeof watch->transitions);

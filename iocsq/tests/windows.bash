@@ -56,7 +56,7 @@ windows_sees() {
   iocsq_sees "$1"
 }
 
-# windows_driver OBJECT DRIVER NUMBER FLAGS COMPILER..: compiles a driver, and its policy beside it as OBJECT.test.o.
+# windows_driver OBJECT DRIVER NUMBER FLAGS COMPILER..: compiles a driver, and its policy, if it has one, as OBJECT.test.o.
 windows_driver() {
   local object=$1 driver=$top/iocsq/$2 number=$3 options sees fault=() source=$top/iocsq/$2.c
   read -ra options <<<"$4"
@@ -72,9 +72,15 @@ windows_driver() {
   fi
   "$@" -std=c11 "${warnings[@]}" "${options[@]}" "${sees[@]}" -DWRONG="$number" -I"$top/include/wdk" \
     -c "$source" -o "$object" &&
-    if [[ -f $driver.test.c ]]; then
-      "$@" -std=c11 "${warnings[@]}" -DWRONG="$number" -I"$top/include" -c "$driver.test.c" -o "$object.test.o"
-    fi
+    if [[ -f $driver.test.c ]]; then windows_policy "$object" "$driver.test.c" "$number" "$@"; fi
+}
+
+# windows_policy OBJECT FILE NUMBER COMPILER..: one for all numbers, unless it names them.
+windows_policy() {
+  local policy=${1%/*}/policies/${2//\//_}
+  if grep -q WRONG "$2"; then policy+=_$3; fi
+  make_once "$policy.o" "${@:4}" -std=c11 "${warnings[@]}" -DWRONG="$3" -I"$top/include" -c "$2" &&
+    ln -f "$policy.o" "$1.test.o"
 }
 
 # Over which library of csq.h gcc's programs are, if it isn't the plain queue: docs/proved-library --all builds it.
@@ -105,6 +111,7 @@ run_kept() {
     own=("$object")
     if [[ -f $object.test.o ]]; then own+=("$object.test.o"); fi
   fi
+  if [[ ${row[3]} != *-g* ]]; then own+=(-s); fi # nobody looks for lines, and it is linked in less time
   if [[ $linked != "$object ${row[2]} $compiler" ]]; then
     linked="$object ${row[2]} $compiler"
     if ! windows_link "$work/test.exe" "$objects" "${row[2]}" "${own[@]}" 2>"$work/errors"; then
@@ -114,8 +121,12 @@ run_kept() {
   fi
   call=("${row[@]:6}") tool=
   if [[ ${row[3]} == *-g* ]]; then tool=$(type -P "$mingw-addr2line"); fi
-  IOCSQ_ADDR2LINE=$tool RACES=${row[5]} "${call[@]/#PROGRAM/$work/under_wine}" >"$work/said" 2>&1
-  status=$?
+  # Beside others wine may not begin a program: then nothing was printed, and it is asked again.
+  for _ in 1 2 3; do
+    status=0
+    IOCSQ_ADDR2LINE=$tool RACES=${row[5]} "${call[@]/#PROGRAM/$work/under_wine}" >"$work/said" 2>&1 || status=$?
+    if [[ -s $work/said || ! -s $file.out ]]; then break; fi
+  done
   if [[ ${row[4]} != - && ${row[4]} != "$status" ]]; then
     fail "$name: status $status, and ${row[4]} on Linux" "$work/said"
   elif ! same_words "$file.out" "$work/said" >"$work/errors"; then
