@@ -9,6 +9,7 @@ pub mod WindowColumns
 pub mod Showing
 pub mod OrderShowing
 pub mod WrongLaws
+pub mod HarmLaws
 pub mod Picking
 pub mod PictureLaws
 pub mod OrderLaws

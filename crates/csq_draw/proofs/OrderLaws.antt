@@ -9,25 +9,36 @@ use Rattle.csq_draw.specs.declared.view.Window.{Window}
 use Rattle.csq_draw.specs.declared.refusals.FirstRefusal.{FirstRefusal}
 use Rattle.csq_draw.specs.Endings.{rest_of}
 use Rattle.csq_draw.specs.Laws.{EachShownStepHasOneMark, EachStepOfAnOrderHasOneMark, added, mark_in, mark_of, mark_on, marks, marks_from, marks_in, order_marks, picked, window_marks, window_shown}
-use Rattle.csq_draw.specs.Pictures.{broken_end, harm_elements, harms_elements}
+use Rattle.csq_draw.specs.HarmMarks.{harm_mark, harm_on, harms_by_line, row_harm}
+use Rattle.csq_draw.specs.Pictures.{broken_elements, broken_end, harm_elements, harm_marks, harms_elements}
 use Rattle.csq_draw.specs.Rows.{rows_of}
 use Rattle.csq_draw.specs.Windows.{cut, places, shows}
 use Rattle.csq_draw.specs.Drawings.{Drawn, drawn_rows, order_shown}
 use Rattle.csq_draw.proofs.Imports.{IrpNow, Numbered, Row, EndShown, Shown, Size, all_passes, close_of, fresh_irps, irps_after, irps_of, mark_element, new_irp, rows_elements, shown_elements, stop_of, stopped_end}
 use Rattle.csq_draw.proofs.Known.{length-after}
-use Rattle.csq_draw.proofs.Picking.{none_closed, none_picked, picked-append, then_none}
+use Rattle.csq_draw.proofs.Picking.{none_closed, none_picked, none_then, picked-append, then_none}
 use Rattle.csq_draw.proofs.PictureLaws.{all_picked, marks_picked, of_rows, quiet}
 use Rattle.csq_draw.proofs.RowElements.{rows-append}
 
 -- of what is shown, before elements that are no marks
-marks_shown : (s : Shown) (e : EndShown) (zs : List _) → picked mark_in (rows_elements s.passes s.irps (fresh_irps s.irps) s.rows) ≡ zs → picked mark_in (e.below (length s.rows)) ≡ [] → marks_in s e ≡ zs
+marks_shown : (s : Shown) (e : EndShown) (zs : List _) → picked mark_in (rows_elements s.passes s.irps (fresh_irps s.irps) s.rows) ≡ zs → picked mark_in (e.on_rows s ++ e.below (length s.rows)) ≡ [] → marks_in s e ≡ zs
 marks_shown s e zs rows none =
-    then_none mark_in (shown_elements s (length s.rows)) (e.below (length s.rows)) zs (of_rows (λ m. m ∷ []) (λ n. []) (λ s. []) (λ a. []) s (length s.rows) zs rows) none
+    then_none mark_in (shown_elements s (length s.rows)) (e.on_rows s ++ e.below (length s.rows)) zs (of_rows (λ m. m ∷ []) (λ n. []) (λ s. []) (λ a. []) s (length s.rows) zs rows) none
 
 -- what goes wrong has none
 no_harm_mark : (rows : ℕ) (harms : List HarmAt) → picked mark_in (harms_elements rows harms) ≡ []
 no_harm_mark rows [] = refl
 no_harm_mark rows (h ∷ harms) = none_picked mark_in (harm_elements rows) (λ k x. refl) 0 (h ∷ harms)
+
+-- on the rows too
+no_row_mark : (ps : List PassNow) (row : Row) (h : Option HarmAt) → picked mark_in (harm_mark ps row h) ≡ []
+no_row_mark ps row (Some h) = refl
+no_row_mark ps row None = refl
+
+no_broken_mark : (s : Shown) (n : ℕ) (reason : Reason) (harms : List HarmAt) → picked mark_in ((broken_end n reason harms).on_rows s ++ (broken_end n reason harms).below (length s.rows)) ≡ []
+no_broken_mark s n reason harms =
+    let lines = harms_by_line s.rows harms in
+    none_then mark_in (harm_marks s.passes s.rows harms) (broken_elements n reason harms (length s.rows)) [] (none_picked mark_in (row_harm s.passes lines) (λ k row. no_row_mark s.passes row (harm_on lines row)) 0 s.rows) (no_harm_mark (length s.rows) harms)
 
 module _ (size : Size) (d : Drawn) (refusal : FirstRefusal) where
   abbrev s : Shown
@@ -52,7 +63,7 @@ module _ (size : Size) (d : Drawn) (refusal : FirstRefusal) where
   pub each_order_mark : EachStepOfAnOrderHasOneMark size d refusal
   each_order_mark = record {
     stopped = λ n reason. marks_shown s (stopped_end n reason) _ order_picked refl;
-    broken = λ n reason harms. marks_shown s (broken_end n reason harms) _ order_picked (no_harm_mark (length s.rows) harms);
+    broken = λ n reason harms. marks_shown s (broken_end n reason harms) _ order_picked (no_broken_mark s n reason harms);
   }
 
 -- the rows that a window shows are those of the steps that it shows

@@ -11,6 +11,7 @@ pub mod Characters
 pub mod Endings
 pub mod Elements
 pub mod Windows
+pub mod HarmMarks
 pub mod Pictures
 pub mod WrongRows
 pub mod Refusals

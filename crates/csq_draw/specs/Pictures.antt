@@ -27,6 +27,7 @@ use Rattle.csq_explain.specs.Passes.{all_passes}
 use Rattle.csq_draw.specs.Rows.{rows_of}
 use Rattle.csq_explain.specs.Reasons.{reason_of}
 use Rattle.csq_draw.specs.declared.element.Element.{Element}
+use Rattle.csq_draw.specs.HarmMarks.{harms_by_line, row_harm}
 use Rattle.csq_draw.specs.Windows.{cut, open_in, place, places, shown_passes}
 use Rattle.csq_draw.specs.declared.element.Element.TheVariants as element
 use Rattle.csq_draw.specs.declared.ending.{Below.TheVariants.{Bar, Refused, Because, Past, Irp, AtRest, Broken as BrokenLine, Harm, NoHarm}, PictureEnd.{PictureEnd, TheVariants.{Stopped as StoppedEnd, Closed, Broken}}, RestState.{RestState}}
@@ -153,26 +154,9 @@ harms_elements rows (h ∷ harms) = each (harm_elements rows) 0 (h ∷ harms)
 abbrev pub broken_elements : ℕ → Reason → List HarmAt → ℕ → List Element
 broken_elements n reason harms rows = element.Below rows (BrokenLine n reason) ∷ harms_elements rows harms
 
--- how a picture ends: its elements below this number of rows
-pub record EndShown : Type 0 where
-  pub below : ℕ → List Element
-
--- with the nth line, which ended the handling for this reason
-abbrev pub stopped_end : ℕ → Reason → EndShown
-stopped_end n reason = record { below = λ rows. refused_elements rows n reason }
-
--- with what is reported in the end
-abbrev pub closed_end : List IrpNow → List PastLife → List IrpLine → RestState → EndShown
-closed_end irps lives reported rest = record { below = closed_elements irps lives reported rest }
-
--- with the nth line, in which the protocol was broken, and what goes wrong
-abbrev pub broken_end : ℕ → Reason → List HarmAt → EndShown
-broken_end n reason harms = record { below = broken_elements n reason harms }
-
-abbrev pub end_of : PictureEnd → EndShown
-end_of (StoppedEnd n reason) = stopped_end n reason
-end_of (Closed irps lives reported rest) = closed_end irps.now lives.now reported.now rest
-end_of (Broken n reason harms) = broken_end n reason harms.now
+-- what goes wrong on each of these rows
+abbrev pub harm_marks : List PassNow → List Row → List HarmAt → List Element
+harm_marks passes rows harms = each (row_harm passes (harms_by_line rows harms)) 0 rows
 
 -- what a picture shows: the passes, what is known of the IRPs after the rows, the rows, the owners after them, and the row of the first step that the protocol refuses
 pub record Shown : Type 0 where
@@ -181,6 +165,28 @@ pub record Shown : Type 0 where
   pub rows : List Row
   pub owners : List (Option Owner)
   pub refused : Option ℕ
+
+-- how a picture ends: its elements on the rows of what is shown, and below this number of rows
+pub record EndShown : Type 0 where
+  pub on_rows : Shown → List Element
+  pub below : ℕ → List Element
+
+-- with the nth line, which ended the handling for this reason
+abbrev pub stopped_end : ℕ → Reason → EndShown
+stopped_end n reason = record { on_rows = λ s. []; below = λ rows. refused_elements rows n reason }
+
+-- with what is reported in the end
+abbrev pub closed_end : List IrpNow → List PastLife → List IrpLine → RestState → EndShown
+closed_end irps lives reported rest = record { on_rows = λ s. []; below = closed_elements irps lives reported rest }
+
+-- with the nth line, in which the protocol was broken, and what goes wrong, on the row of its step too
+abbrev pub broken_end : ℕ → Reason → List HarmAt → EndShown
+broken_end n reason harms = record { on_rows = λ s. harm_marks s.passes s.rows harms; below = broken_elements n reason harms }
+
+abbrev pub end_of : PictureEnd → EndShown
+end_of (StoppedEnd n reason) = stopped_end n reason
+end_of (Closed irps lives reported rest) = closed_end irps.now lives.now reported.now rest
+end_of (Broken n reason harms) = broken_end n reason harms.now
 
 -- as a sheet has it
 abbrev pub shown_by : Sheet → Shown
@@ -194,9 +200,9 @@ above_elements passes irps count = element.Lines ∷ (each (column_elements pass
 abbrev pub shown_elements : Shown → ℕ → List Element
 shown_elements s count = above_elements s.passes s.irps count ++ (rows_elements s.passes s.irps (fresh_irps s.irps) s.rows ++ owners_elements s.passes count s.refused s.owners)
 
--- and then how it ends
+-- and then how it ends, on the rows and below them
 abbrev pub picture_of : Shown → ℕ → EndShown → List Element
-picture_of s count e = shown_elements s count ++ e.below count
+picture_of s count e = shown_elements s count ++ (e.on_rows s ++ e.below count)
 
 -- the elements of what is shown, and of how it ends
 abbrev pub elements_of : Shown → EndShown → List Element

@@ -4,6 +4,7 @@ use crate::bars::Bars;
 use crate::calls::CallLine;
 use crate::circles::WordColumns;
 use crate::ending::{Below, BelowRows};
+use crate::harm_marks::HarmMark;
 use crate::heading::Column;
 use crate::layout::{left, top};
 use crate::marks::{Mark, Number, Shade};
@@ -33,6 +34,8 @@ pub(crate) enum Element {
     Mark(Mark),
     /// The call that it is of.
     Call(CallLine),
+    /// What goes wrong at a step.
+    HarmMark(HarmMark),
     /// What stands below this number of rows: the line that ended the handling, or what is reported in the end.
     Below(u32, Below),
 }
@@ -57,6 +60,7 @@ impl fmt::Display for Element {
             Element::Arrow(arrow) => arrow.fmt(f),
             Element::Mark(mark) => mark.fmt(f),
             Element::Call(line) => line.fmt(f),
+            Element::HarmMark(mark) => mark.fmt(f),
             Element::Below(rows, below) => BelowRows(rows, below).fmt(f),
         }
     }

@@ -25,11 +25,11 @@ At the right stand the Cancel flag and the cancel routine of each IRP.</desc>
 .k2{color:#1a7f37;fill:#dafbe1}.k3{color:#8250df;fill:#fbefff}
 .k4{color:#9a6700;fill:#fff8c5}.k5{color:#bf3989;fill:#ffeff7}
 .k6{color:#0f766e;fill:#e6fffa}.k7{color:#57606a;fill:#ffffff}
-.e{color:#57606a;fill:#ffffff}.bad{color:#cf222e;fill:#ffebe9}
-.k0,.k1,.k2,.k3,.k4,.k5,.k6,.k7,.e,.bad{stroke:currentColor}
+.e{color:#57606a;fill:#ffffff}.bad,.x{color:#cf222e;fill:#ffebe9}
+.k0,.k1,.k2,.k3,.k4,.k5,.k6,.k7,.e,.bad,.x{stroke:currentColor}
 .d{fill:#eaeef2;stroke-dasharray:3 2}.bad rect{stroke-width:3}.c rect{stroke-width:3}.c .w{font-weight:bold}
 .owes,.holds{fill:none;stroke-width:3}.owes{stroke-dasharray:4 3}.g{stroke:#d1d9e0}
-text{fill:#1f2328;stroke:none}.f{fill:#cf222e;font-weight:bold}.s,.m{font-size:10.5px}.s,.m,.n,.q{fill:#424a53}
+text{fill:#1f2328;stroke:none}.f,.x text{fill:#cf222e;font-weight:bold}.x text{text-anchor:end}.x rect{fill:none;stroke-width:3}.s,.m,.x text{font-size:10.5px}.s,.m,.n,.q{fill:#424a53}
 .m{font-family:ui-monospace,SFMono-Regular,Consolas,'DejaVu Sans Mono',monospace;font-size:10px}
 .t{font-size:16px;font-weight:bold}.t tspan{fill:#59636e;font-size:10.5px;font-weight:normal}
 .p{font-weight:bold;text-anchor:middle}.o{text-anchor:middle}.q{font-size:9px;text-anchor:middle}.n,.v{text-anchor:end}
@@ -40,9 +40,9 @@ circle.on{fill:currentColor}circle.off{fill:#ffffff}circle.b{stroke-width:3}
 .k2{color:#3fb950;fill:#033a16}.k3{color:#bc8cff;fill:#3c1e70}
 .k4{color:#d29922;fill:#4b2900}.k5{color:#f778ba;fill:#5e103e}
 .k6{color:#2dd4bf;fill:#063b38}.k7{color:#8b949e;fill:#0d1117}
-.e{color:#8b949e;fill:#0d1117}.bad{color:#f85149;fill:#67060c}
+.e{color:#8b949e;fill:#0d1117}.bad,.x{color:#f85149;fill:#67060c}
 .d{fill:#262c36}.owes,.holds,.bar,.a{fill:none}.g{stroke:#30363d}circle.off{fill:#0d1117}
-text{fill:#e6edf3}.f{fill:#f85149}.s,.m,.n,.q,.t tspan{fill:#b1bac4}}
+text{fill:#e6edf3}.f,.x text{fill:#f85149}.s,.m,.n,.q,.t tspan{fill:#b1bac4}}
 </style>";
 
 /// What stands above all elements of a picture and below them on its sheet: its size, its name, what all pictures share,

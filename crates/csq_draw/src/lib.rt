@@ -12,6 +12,7 @@ mod drawing;
 mod element;
 mod ending;
 mod extent;
+mod harm_marks;
 mod heading;
 mod irps;
 mod lanes;

@@ -34,22 +34,24 @@ fn shade_height(last: bool) -> u64 {
 #[derive(Clone, Copy)]
 struct LockLabel(Shade);
 
-/// That the pass has the lock, beside the first shade of that time.
+/// That it is of the lock, beside the first shade of that time. No arrow of the row's own step crosses it: the ones that leave
+/// a step run downwards from the middle of its row, and a step that lets the lock go at once wrote nothing that is found; the
+/// others come from above.
 impl fmt::Display for LockLabel {
     fn fmt<W: fmt::Write>(&self, f: &mut fmt::Formatter<W>) -> fmt::Result {
         let Shade {
             row,
             column,
             first,
-            ..
+            last,
         } = self.0;
         if !first {
             return Ok(());
         }
-        let (x, middle) = (left(column), top(row) + 30);
+        let (x, middle) = (left(column), top(row) + if last { 46 } else { 14 });
         write!(
             f,
-            "<text class='q' dy='-4' transform='translate({x} {middle})rotate(-90)'>has the lock</text>"
+            "<text class='q' dy='-4' transform='translate({x} {middle})rotate(-90)'>lock</text>"
         )
     }
 }
@@ -179,19 +181,58 @@ impl fmt::Display for MarkClass {
     }
 }
 
+/// What a step after the refused one does by the two words of its IRP.
+#[derive(Clone, Copy)]
+struct ByWords(Made);
+
+/// As `p2 took the cancel routine of IRP 0`. (After the refused step nothing is known of calls.)
+impl fmt::Display for ByWords {
+    fn fmt<W: fmt::Write>(&self, f: &mut fmt::Formatter<W>) -> fmt::Result {
+        let Made { pass, kind, found } = self.0;
+        match (kind, found != 0) {
+            (Kind::Arm(irp), _) => write!(f, "{pass} set the cancel routine of IRP {irp}"),
+            (Kind::Rearm(irp), _) => {
+                write!(f, "{pass} put IRP {irp} back, and set its cancel routine")
+            }
+            (Kind::Test(irp), false) => write!(
+                f,
+                "{pass} found the Cancel flag of IRP {irp} clear"
+            ),
+            (Kind::Test(irp), true) => write!(f, "{pass} found the Cancel flag of IRP {irp} set"),
+            (Kind::Disarm(irp) | Kind::Take(irp), false) => {
+                write!(f, "{pass} found no cancel routine of IRP {irp}")
+            }
+            (Kind::Disarm(irp) | Kind::Take(irp), true) => {
+                write!(f, "{pass} took the cancel routine of IRP {irp}")
+            }
+            (Kind::End, _) => write!(f, "{pass} ended its removal without an IRP"),
+            (Kind::Flag(irp), false) => write!(f, "{pass} set the Cancel flag of IRP {irp}"),
+            (Kind::Flag(irp), true) => {
+                write!(f, "{pass} found the Cancel flag of IRP {irp} set already")
+            }
+            (Kind::Out(irp), _) => write!(f, "{pass} took IRP {irp} out of the list"),
+            (Kind::Done(irp), _) => write!(f, "{pass} completed IRP {irp}"),
+            (Kind::Renew(irp), _) => {
+                write!(f, "{pass} began the life that comes after IRP {irp}")
+            }
+        }
+    }
+}
+
 /// A mark in words.
 #[derive(Clone, Copy)]
 struct MarkTitle(Legality, StepInCall);
 
-/// A sentence, or as `p2 done 0 refused NotHeld`. (After the refused step nothing is known of calls.)
+/// A sentence, and from the refused step on what the two words make of it.
 impl fmt::Display for MarkTitle {
     fn fmt<W: fmt::Write>(&self, f: &mut fmt::Formatter<W>) -> fmt::Result {
-        let made = self.1.made;
-        let (pass, kind) = (made.pass, made.kind);
+        let by_words = ByWords(self.1.made);
         match self.0 {
             Legality::Legal => Sentence(self.1).fmt(f),
-            Legality::Refused(cause) => write!(f, "{pass} {kind} refused {cause}"),
-            Legality::Later => write!(f, "{pass} {kind}, behind the refused step"),
+            Legality::Refused(cause) => {
+                write!(f, "{by_words}, which the protocol refuses: {cause}")
+            }
+            Legality::Later => write!(f, "{by_words}, after the refused step"),
         }
     }
 }
@@ -205,9 +246,7 @@ impl fmt::Display for RefusalAt {
     fn fmt<W: fmt::Write>(&self, f: &mut fmt::Formatter<W>) -> fmt::Result {
         let RefusalAt(x, y, legality) = *self;
         match legality {
-            Legality::Refused(cause) => {
-                write!(f, "<text x='{x}' y='{y}'>not allowed: {cause}</text>")
-            }
+            Legality::Refused(_) => write!(f, "<text x='{x}' y='{y}'>not allowed</text>"),
             Legality::Legal | Legality::Later => Ok(()),
         }
     }

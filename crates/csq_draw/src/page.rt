@@ -179,7 +179,8 @@ impl<A: Allocator> Page<'_, A> {
             | Element::Span(_)
             | Element::Bars(_)
             | Element::Arrow(_)
-            | Element::Call(_) => Ok(()),
+            | Element::Call(_)
+            | Element::HarmMark(_) => Ok(()),
         }
     }
 }

@@ -8,6 +8,7 @@ use crate::canvas::{Canvas, draw_each};
 use crate::circles::WordColumns;
 use crate::element::Element;
 use crate::ending::{Below, PictureEnd, RestState, count_with};
+use crate::harm_marks::draw_harm_marks;
 use crate::heading::Column;
 use crate::irps::{IrpNow, irp_at, irp_column};
 use crate::lives::PastLife;
@@ -330,6 +331,25 @@ pub(crate) fn draw_end<C: Canvas>(
     }
 }
 
+/// What a picture has of its end on the rows: what goes wrong, if the protocol was broken.
+fn draw_on_rows<A: Allocator, C: Canvas>(
+    alloc: A,
+    sheet: Sheet<'_>,
+    ending: PictureEnd<'_>,
+    out: &mut C,
+) -> Result<(), AllocError>
+    requires { length sheet.passes.now ≤ 65 }
+    ensures { OnOk result (Drew C.added (C.image out.old) (C.image out.new)
+        ((end_of ending.entry).on_rows (shown_by sheet.entry))) }
+{
+    match ending {
+        PictureEnd::Stopped(_, _) | PictureEnd::Closed(_, _, _, _) => Ok(()),
+        PictureEnd::Broken(_, _, harms) => {
+            draw_harm_marks(alloc, sheet.passes, sheet.rows, harms, out)
+        }
+    }
+}
+
 /// A picture of this number of rows, below its head.
 pub(crate) fn draw_picture<A: Allocator + Copy, C: Canvas>(
     alloc: A,
@@ -344,6 +364,7 @@ pub(crate) fn draw_picture<A: Allocator + Copy, C: Canvas>(
         (picture_of (shown_by sheet.entry) rows (end_of ending.entry))) }
 {
     draw_shown(alloc, sheet, rows, out)?;
+    draw_on_rows(alloc, sheet, ending, out)?;
     draw_end(rows, ending, out)?;
     Ok(())
 }

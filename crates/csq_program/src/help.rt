@@ -154,15 +154,15 @@ pass owes or holds the IRP from then on, and the IRP in its present life, with
 its Cancel flag and its cancel routine after the step. The comment before the
 first step is above, and the sentences of the end are below.
 
-With --wrong a refused step is drawn all the same, in red with its refusal, and
+With --wrong a refused step is drawn all the same, in red as not allowed, and
 the schedule goes on in grey by the two words of each IRP alone, as csqsim
 schedule --wrong does: what a step found is what the word held. (A step of an
 IRP or a pass that there isn't still ends it.) Nothing is known then of calls,
 of the lock, and of who owes or holds an IRP. A step that names another life of
 an IRP than its present one finds nothing in the words, changes nothing, and
 shows none. The end says in which line the protocol was broken, why, and what
-goes wrong. With --text a ! stands in the place of the lock at the refused step,
-and a ? after it.
+goes wrong; that has a red box too, on the row of its step. With --text a !
+stands in the place of the lock at the refused step, and a ? after it.
 
 A part of a long schedule is drawn with --from, --to and --irp. The steps of
 lines before that of --from are made, but not drawn. The schedule ends after
