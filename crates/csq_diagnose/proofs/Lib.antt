@@ -8,4 +8,5 @@ mod Walking
 mod Nearing
 pub mod Reporting
 pub mod Reported
+mod Drawings
 mod Malforming

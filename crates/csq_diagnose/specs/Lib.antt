@@ -8,3 +8,4 @@ pub mod Columns
 pub mod Diagnoses
 pub mod Schedules
 pub mod Reports
+pub mod Drawings

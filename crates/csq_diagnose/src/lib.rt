@@ -3,6 +3,7 @@
 #![tactic(auto)]
 
 mod diagnosed;
+mod drawing;
 mod expected;
 mod found;
 mod grammar;
@@ -16,6 +17,7 @@ mod source;
 mod texts;
 
 pub use diagnosed::{Diagnose, Report, report_input};
+pub use drawing::report_drawing;
 pub use expected::Expected;
 pub use found::Found;
 pub use grammar::Grammar;

@@ -1,6 +1,5 @@
 mod Appending
 mod Numbers
 mod RunTexts
-mod Drawings
 mod FirstLines
 mod Endings

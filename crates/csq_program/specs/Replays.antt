@@ -9,14 +9,13 @@ use Rattle.csq_words.specs.Queue.{Limits}
 use Rattle.csq_replay.specs.declared.lines.answer.{Ended.{Ended, TheVariants.{AllHandled, Stopped}}, SimFault.{SimFault}}
 use Rattle.csq_replay.specs.declared.lines.answer.SimFault.TheVariants as fault
 use Rattle.csq_replay.specs.Inputs.{ReadsInput}
-use Rattle.csq_explain.specs.Executions.{StopsFor}
 use Rattle.csq_explain.specs.Explaining.{IsScheduleText}
 use Rattle.csq_explain.specs.ExplainingCalls.{IsScriptText}
-use Rattle.csq_draw.specs.Drawings.{NotesLine, new_drawn}
 use Rattle.csq_diagnose.specs.declared.diagnosed.Report.{Report}
 use Rattle.csq_diagnose.specs.Diagnoses.{IsScriptDiagnosis}
-use Rattle.csq_diagnose.specs.Reports.{IsReport, IsReportUntil}
-use Rattle.csq_diagnose.specs.Schedules.{IsScheduleDiagnosis, IsWrongReport, ReportsReason}
+use Rattle.csq_diagnose.specs.Drawings.{ReportsDrawingEnd}
+use Rattle.csq_diagnose.specs.Reports.{IsReport}
+use Rattle.csq_diagnose.specs.Schedules.{IsScheduleDiagnosis, IsWrongReport}
 use Rattle.csq_program.specs.Cuts.{drawn_input}
 use Rattle.csq_program.specs.Totals.{WritesRuns}
 use Rattle.csq_program.specs.declared.command.Job.{Job, TheVariants.{Schedule, Draw, Script, Run}}
@@ -44,11 +43,6 @@ IsReplayReport size claims explains false = IsScheduleReport size claims explain
 -- a script has this answer, with sentences or without, and this diagnosis
 abbrev pub IsScriptReport : {A : Type 0} → Limits → Bool → List ℕ → Report A → Type 0
 IsScriptReport limits explains = IsReport (IsScriptText explains limits) IsScriptDiagnosis
-
--- a report says how the drawing of a schedule ended, and has the diagnosis of that, which is the schedule's if the drawing ends at the first refused step; what the picture is isn't said, only that nothing was written before the end
-pub record ReportsDrawingEnd {A : Type 0} (size : Size) (wrong : Bool) (input : List ℕ) (report : Report A) : Type 0 where
-  pub ends : IsReportUntil (NotesLine size wrong) (λ d. StopsFor size d.own) (λ d text. Unit {0}) ReportsReason new_drawn input report
-  pub kept : wrong ≡ false → IsScheduleDiagnosis size input (string_bytes report.diagnosis) report.ended
 
 -- what is reported of an input up to the line that is named, if one is
 abbrev pub IsCutReport : {A : Type 0} → Option ℕ → (List ℕ → Report A → Type 0) → List ℕ → Report A → Type 0

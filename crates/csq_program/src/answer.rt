@@ -6,13 +6,14 @@ ghost use Rattle.csq_list.specs.Listing.{IsFresh};
 ghost use Rattle.csq_words.specs.Queue.{limits_of};
 ghost use Rattle.csq_replay.specs.Schedule.{RepliesToSchedule};
 ghost use Rattle.csq_replay.specs.ScriptAnswer.{RepliesToScript};
+ghost use Rattle.csq_diagnose.specs.Drawings.{ReportsDrawingEnd};
 ghost use Rattle.csq_diagnose.specs.Schedules.{IsWrongReport};
 ghost use Rattle.csq_program.specs.Cuts.{drawn_input};
-ghost use Rattle.csq_program.specs.Replays.{AnswersInput, IsScheduleReport, IsScriptReport, ReportsDrawingEnd, IsCutReport};
+ghost use Rattle.csq_program.specs.Replays.{AnswersInput, IsScheduleReport, IsScriptReport, IsCutReport};
 
 use crate::cut::cut_input;
-use csq_diagnose::{Report, report_input, report_schedule, report_script, report_wrong_order};
-use csq_draw::{Drawing, PictureView};
+use csq_diagnose::{Report, report_drawing, report_schedule, report_script, report_wrong_order};
+use csq_draw::PictureView;
 use csq_list::PendingList;
 use csq_replay::{Ended, SimFault, read_input, write_answer};
 use std::alloc::{AllocError, Allocator};
@@ -91,8 +92,8 @@ pub(crate) fn write_wrong_order<A: Allocator + Copy, R: Read, W: Write>(
     Ok(report)
 }
 
-/// Draws a schedule up to the line that is named, and diagnoses it: its steps are made once.
-fn report_drawing<A: Allocator + Copy>(
+/// Draws a schedule up to the line that is named, and diagnoses it.
+fn report_cut_drawing<A: Allocator + Copy>(
     alloc: A,
     irps: u32,
     passes: u32,
@@ -104,8 +105,7 @@ fn report_drawing<A: Allocator + Copy>(
     ensures { IfOk result (ReportsDrawingEnd (record { irps = irps; passes = passes; first = 0 }) view.wrong
         (drawn_input to input.now)) }
 {
-    let mut drawing = Drawing::new(alloc, irps, passes, view)?;
-    report_input(alloc, &mut drawing, cut_input(input, to))
+    report_drawing(alloc, irps, passes, view, cut_input(input, to))
 }
 
 /// Reads a schedule, and writes csq_draw's picture of its steps, up to the line that is named, if one is. It reads,
@@ -128,7 +128,7 @@ pub fn write_drawing<A: Allocator + Copy, R: Read, W: Write>(
         → Keeps (W.contents writer.old) (W.contents writer.new)) }
 {
     let input = read_input(alloc, reader)?;
-    let report = report_drawing(alloc, irps, passes, view, to, &input)?;
+    let report = report_cut_drawing(alloc, irps, passes, view, to, &input)?;
     write_answer(writer, report.text.as_bytes())?;
     Ok(report)
 }

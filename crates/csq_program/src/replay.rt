@@ -5,8 +5,9 @@ ghost use Rattle.irp_core.specs.Runs.{IsInLimits};
 ghost use Rattle.irp_core.specs.declared.refusals.SizeRefused.TheVariants.{BadSize};
 ghost use Rattle.csq_list.specs.Listing.{IsFresh};
 ghost use Rattle.csq_words.specs.Queue.{limits_of};
+ghost use Rattle.csq_diagnose.specs.Drawings.{ReportsDrawingEnd};
 ghost use Rattle.csq_program.specs.declared.program.ProgramFault.TheVariants.{Replay};
-ghost use Rattle.csq_program.specs.Replays.{limits_or_all, IsWriteFault, IsReplayReport, IsCutReport, IsScriptReport, ReportsDrawingEnd, LeadsTo, WritesReport, WritesScript};
+ghost use Rattle.csq_program.specs.Replays.{limits_or_all, IsWriteFault, IsReplayReport, IsCutReport, IsScriptReport, LeadsTo, WritesReport, WritesScript};
 
 use crate::answer::{write_drawing, write_schedule, write_script, write_wrong_order};
 use crate::program::{ProgramFault, REFUSED};

@@ -1,7 +1,8 @@
 use Rattle.std.proofs.Common.{List, ℕ, subst}
 use Rattle.std.specs.Io.KnownBytes.{Appends}
 use Rattle.irp_core.specs.Runs.{Size}
-use Rattle.csq_program.specs.Replays.{IsCutReport, ReportsDrawingEnd}
+use Rattle.csq_diagnose.specs.Drawings.{ReportsDrawingEnd}
+use Rattle.csq_program.specs.Replays.{IsCutReport}
 use Rattle.csq_program.proofs.answer.write_drawing.Goals as goal
 
 pub returns-clause-answered : goal.returns-clause-answered

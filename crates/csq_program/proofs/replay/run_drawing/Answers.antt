@@ -1,5 +1,6 @@
 use Rattle.irp_core.specs.Runs.{Size}
-use Rattle.csq_program.specs.Replays.{IsCutReport, ReportsDrawingEnd}
+use Rattle.csq_diagnose.specs.Drawings.{ReportsDrawingEnd}
+use Rattle.csq_program.specs.Replays.{IsCutReport}
 use Rattle.csq_program.proofs.Endings.{ended_reported}
 use Rattle.csq_program.proofs.replay.run_drawing.Goals as goal
 
