@@ -5,9 +5,9 @@
 : "${CC:=cc}" "${LD:=ld}" "${AR:=ar}" "${OBJCOPY:=objcopy}" "${LIBDIR:=lib}"
 csq_files=share/keuvatsi/files # the list of what is installed below a prefix, which is one of them
 
-# Ends the script with an error: csq_refuse NAME WHAT, with what to do.
+# Ends the script with an error: csq_refuse NAME WHAT, with what to do. csq_script names one that isn't in c.
 csq_refuse() {
-  echo "c/${0##*/}: $1: $2" >&2
+  echo "${csq_script:-c/${0##*/}}: $1: $2" >&2
   exit 1
 }
 
@@ -81,6 +81,23 @@ csq_program() {
   else
     echo "$program"
   fi
+}
+
+# Prints the page of csqsim to pack, which is the same for each target, or nothing: the one that page/build has made, if no
+# source is newer.
+csq_page() {
+  local top=$1 page=$1/crates/csq_page/out/keuvatsi.html
+  local sources=("$top/page" "$top/schedules" "$top/docs/harmful-orders")
+  if [[ -f $page && ! $(csq_newer "$top" "$page") && ! $(find "${sources[@]}" -newer "$page" -type f) ]]; then
+    echo "$page"
+  fi
+}
+
+# Adds it to a tree: csq_add_page TOP TREE
+csq_add_page() {
+  local page
+  page=$(csq_page "$1")
+  if [[ $page ]]; then install -D -m 644 "$page" "$2/share/keuvatsi/keuvatsi.html"; fi
 }
 
 # Prints the version, which stands in csq.h alone.
@@ -190,6 +207,7 @@ csq_package_windows() {
   csq_share_dll "$top" "$work" "$version" "$build"
   csq_add_headers "$top" "$work/tree"
   csq_add_iocsq "$top" "$work/tree" Windows
+  csq_add_page "$top" "$work/tree"
 }
 
 # Makes the tree WORK/tree: csq_package TOP WORK PREFIX KIT ARCHIVE.., where PREFIX is what csq.pc is to name, and KIT the
@@ -209,6 +227,7 @@ csq_package() {
     "TO_PREFIX=$(realpath -ms --relative-to="/$LIBDIR/cmake/csq" /)" "PROVED=$proved" "KIT=$kit")
   csq_add_headers "$top" "$tree"
   csq_add_iocsq "$top" "$tree" Linux
+  csq_add_page "$top" "$tree"
   mkdir -p "$lib/pkgconfig" "$lib/cmake/csq"
   csq_fill "$top/c/package/csq.pc.in" "${values[@]}" >"$lib/pkgconfig/csq.pc"
   for file in csqConfig.cmake csqConfigVersion.cmake; do

@@ -808,10 +808,11 @@ CSQ_NODISCARD CSQ_INLINE uint32_t csq_cancel(struct csq_queue *queue, struct csq
 
 /* Removes each IRP that is listed for a file object, or each for CSQ_ANY, and completes it as
  * cancelled; before that the callback, which may be NULL, is called with it, when it isn't listed
- * any more. The file object stays open. *completed is how many. What a canceller has is left to
- * that canceller, and is listed until then (csq_file_len). What was removed before isn't listed,
- * and is for this file object again if it is put back. It ends once it finds none, so it may go on
- * for as long as others insert or put back.
+ * any more. (WDF calls this a purge, and lets the requests of a drain be processed.) The file
+ * object stays open. *completed is how many. What a canceller has is left to that canceller, and is
+ * listed until then (csq_file_len). What was removed before isn't listed, and is for this file
+ * object again if it is put back. It ends once it finds none, so it may go on for as long as others
+ * insert or put back.
  * CSQ_EMPTY_HANDLE; CSQ_OTHER_QUEUE; CSQ_UNKNOWN_FILE. Lock: not held; it is taken for each
  * removal, and free between two of them. */
 CSQ_NODISCARD CSQ_INLINE uint32_t csq_drain(struct csq_queue *queue, struct csq_pass *pass,

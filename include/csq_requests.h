@@ -288,11 +288,11 @@ CSQ_NODISCARD uint32_t csq_requests_start_clock(struct csq_requests *requests);
 
 /* Completes each request that is listed for a file object, or for any with CSQ_ANY, as cancelled,
  * with the events, and waits until none of it is under way, for at most this many milliseconds (0,
- * CSQ_FOREVER as of csq_requests_next). What a worker puts back meanwhile is drained too. The
- * number of the file object may have its next connection then, if nobody submits for the old one
- * any more; otherwise it may go on for as long as they do. A thread that has taken a request of it
- * completes it first: otherwise it waits for itself. CSQ_UNKNOWN_FILE; CSQ_HOLDING (its time is
- * over, and requests of it are under way). */
+ * CSQ_FOREVER as of csq_requests_next). (WDF calls that a purge.) What a worker puts back meanwhile
+ * is drained too. The number of the file object may have its next connection then, if nobody
+ * submits for the old one any more; otherwise it may go on for as long as they do. A thread that
+ * has taken a request of it completes it first: otherwise it waits for itself. CSQ_UNKNOWN_FILE;
+ * CSQ_HOLDING (its time is over, and requests of it are under way). */
 CSQ_NODISCARD uint32_t csq_requests_drain(struct csq_requests *requests, uint32_t file,
                                           uint32_t milliseconds);
 

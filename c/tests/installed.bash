@@ -341,6 +341,22 @@ newer_than_its_sources() {
   [[ $(program_of "$work/built") == "$built/out/csqsim" ]] && touch -d "1 hour" "$built/src/main.rt" &&
     [[ ! $(program_of "$work/built") ]]
 }
+# So is the page, unless a source of it is.
+page_is_newer_than_its_sources() {
+  local built=$work/built page=$work/built/crates/csq_page/out/keuvatsi.html source
+  local sources=("$built"/{page/page.js,schedules/late.txt,docs/harmful-orders,crates/csq_page/codes.rt})
+  mkdir -p "$built/crates/csq_page/out" "$built/page" "$built/schedules" "$built/docs"
+  find "$built/crates" -name '*.rt' -delete
+  touch -d "1 hour ago" "${sources[@]}"
+  touch "$page"
+  [[ $(page_of "$built") == "$page" ]] || return
+  for source in "${sources[@]}"; do
+    touch -d "1 hour" "$source" && [[ ! $(page_of "$built") ]] && touch -d "1 hour ago" "$source" || return
+  done
+  rm "$page" && [[ ! $(page_of "$built") ]]
+}
+# shellcheck disable=SC2016 # the parameters are that shell's
+page_of() { bash -c 'source "$1/c/package.bash" && csq_page "$2"' run-tests "$top" "$1"; }
 # shellcheck disable=SC2016 # the parameters are that shell's
 program_of() { env -u CSQSIM bash -c 'source "$1/c/package.bash" && csq_program "$2"' run-tests "$top" "$1"; }
 
@@ -369,6 +385,7 @@ run_refusals() {
     expect "$script: --help and -h" helps "$script"
   done
   expect "install and dist: csqsim, if it is newer than its sources" newer_than_its_sources
+  expect "install and dist: the page, if it is newer than its sources" page_is_newer_than_its_sources
   OBJCOPY=no-objcopy expect "install: no tool" refused "no tool" "$work/none" --plain
 }
 
