@@ -1,5 +1,6 @@
 """The numbers that the documents state of the repository. Each is counted here, from the sources or by csqsim, or it is
 *measured*: then it stands below a line that says so, with the date."""
+import functools
 import itertools
 import os
 import pathlib
@@ -10,9 +11,9 @@ WORDS = 'no one two three four five six seven eight nine ten eleven twelve thirt
 eighteen nineteen twenty'.split()
 # The lines below which numbers are measured, with the date.
 MEASURED = {
-    'docs/DRIVERS.md': r'^Measured on \d{4}-\d\d-\d\d:',
+    'docs/IOCSQ.md': r'^Measured on \d{4}-\d\d-\d\d:',
     'docs/FIGURES.md': r'^Measured on \d{4}-\d\d-\d\d by `bench/figures` on ',
-    'docs/GATE.md': r'^The last run, of \d{4}-\d\d-\d\d ',
+    'CONTRIBUTING.md': r'^The last run, of \d{4}-\d\d-\d\d ',
     'docs/PROOFS.md': r'^Measured on \d{4}-\d\d-\d\d: the prover prints',
 }
 MOST_ORDERS = 1000  # of a row of PROTOCOL's table that is counted outside of the gate
@@ -35,6 +36,7 @@ class Repository:
         """How many files have such a name."""
         return sum(re.fullmatch(pattern, name) is not None for name in self.files)
 
+    @functools.cache
     def lines(self, pattern):
         """How many lines that aren't blank the files of such a name have."""
         return sum(bool(line.strip()) for name in self.files if re.fullmatch(pattern, name)
@@ -57,6 +59,10 @@ def figure(repository, call, threads):
     return row[1] if row else ''
 
 
+def schedules(repository, folder):
+    return WORDS[repository.count(folder + r'/[\w-]+\.txt')]
+
+
 def of_the_proofs(repository):
     crates = re.findall(r'^[^#\s]', repository.text('crates.txt'), re.M)
     edits, more = (str(repository.count(it)) for it in (r'crates/\w+/edits/\w+\.edit', r'crates/\w+/edits/more/\w+\.edit'))
@@ -64,10 +70,16 @@ def of_the_proofs(repository):
     exports = sum(repository.text(f'crates/csq_c/src/{it}.rt').count('extern "C" fn') for it in ('locked', 'unlocked'))
     yield 'README.md', r'proves all (\d+) crates', str(len(crates))
     yield 'README.md', r'refuse (\d+) faulty variants', edits
+    yield 'docs/FAQ.md', r'prover refuses (\d+) faulty variants', edits
+    yield 'docs/PAPER.md', r'prover refuses (\d+) faulty variants', edits
     yield 'docs/PROOFS.md', r'prover refuses it: there are (\d+)', edits
     yield 'docs/PROOFS.md', r'There are (\d+) more, in `edits/more`', more
     yield 'README.md', r'Each of the (\w+) exported C calls by a pass', WORDS[exports]
     yield 'crates/csq_c/README.md', r'the (\w+) exports that are calls by a pass', WORDS[exports]
+    yield 'docs/FAQ.md', r'each of the (\w+) exported calls by a pass', WORDS[exports]
+    yield 'docs/PAPER.md', r'Each of the (\w+) exported C calls by a pass', WORDS[exports]
+    yield 'docs/FAQ.md', r'the C library by (\d+) assumed functions', axioms
+    yield 'docs/PAPER.md', r'(\d+) C functions that `csqsim` reaches', axioms
     yield 'README.md', r'of the (\d+) C functions that `csqsim` reaches', axioms
     yield 'README.md', r'reaches \(`axioms=(\d+)`\)', axioms
 
@@ -90,12 +102,64 @@ def of_the_drivers(repository):
     stormed, bounded = faults(repository, 'wrong'), faults(repository, 'bounded')
     drivers = right_drivers(repository)
     yield 'README.md', r'and (\d+) faults, each of which is found', str(len(stormed | bounded))
-    yield 'docs/DRIVERS.md', r'(\d+) faults in all', str(len(stormed | bounded))
-    yield 'docs/DRIVERS.md', r'except (\w+) that take every schedule', WORDS[len(bounded - stormed)]
-    yield 'docs/DRIVERS.md', r'in the (\w+) scenarios', WORDS[repository.count(r'iocsq/scenarios/[\w-]+\.txt')]
+    yield 'docs/IOCSQ.md', r'(\d+) faults in all', str(len(stormed | bounded))
+    yield 'docs/IOCSQ.md', r'except (\w+) that take every schedule', WORDS[len(bounded - stormed)]
+    yield 'docs/IOCSQ.md', r'in the (\w+) scenarios', schedules(repository, 'iocsq/scenarios')
+    yield 'docs/TUTORIAL.md', r'all (\w+) scenarios', schedules(repository, 'iocsq/scenarios')
+    quiet = repository.count(r'iocsq/(drivers|usual|examples|hand|kmdf|unusual|races)/\w+\.c')
+    for name, pattern in ('docs/FAQ.md', r'were planted: (\d+)'), ('docs/PAPER.md', r'and (\d+) planted faults'):
+        yield name, pattern, str(len(stormed | bounded))
+    yield 'docs/FAQ.md', r'seeds except (\w+) that take every schedule', WORDS[len(bounded - stormed)]
+    yield 'docs/FAQ.md', r'run (\d+) right drivers', str(quiet)
+    yield 'docs/PAPER.md', r'(\d+) right drivers', str(quiet)
     for folder in ('drivers', 'usual', 'examples', 'hand', 'kmdf'):
         count = sum(it.startswith(f'{folder}/') for it in drivers)
-        yield 'docs/DRIVERS.md', rf'`iocsq/{folder}` (?:has )?(\w+)', WORDS[count]
+        yield 'docs/IOCSQ.md', rf'`iocsq/{folder}` (?:has )?(\w+)', WORDS[count]
+
+
+def of_the_costs(repository):
+    """What FAQ takes from FIGURES and DECISIONS."""
+    name, figures = 'docs/FAQ.md', repository.text('docs/FIGURES.md')
+    jobs = dict(re.findall(r'^\| (.*), over the proved library, .*? \| (.*) \|$', figures, re.M))
+    rust, ring = jobs['Rust'].split(' | '), jobs['C, one in a call'].split(' | ')
+    yield name, r'took (\d+) ns in one thread', re.match(r'\d+', rust[0])[0]
+    for cell, pattern in ((rust[0], r'proved library, ([\d.]+) times'), (ring[0], r'in C it was ([\d.]+) times'),
+                          (rust[4], r'the factors were ([\d.]+)'), (ring[4], r'the factors were [\d.]+ and ([\d.]+)\.')):
+        yield name, pattern, re.match(r'\d+, ([\d.]+) ', cell)[1]
+    taken = re.search(r'takes (\d+) instructions over it, and (\d+) over', repository.text('docs/DECISIONS.md'))
+    yield name, r'takes (\d+) instructions over it', taken[1]
+    yield name, r'over it and (\d+) over a plain', taken[2]
+    refusing = re.search(r'^\| a plain queue that refuses the same.*', figures, re.M)[0]
+    ratios = sorted(re.findall(r'\d\.\d\d', refusing))
+    yield name, r'took ([\d.]+) to [\d.]+ times as long', ratios[0]
+    yield name, r'to ([\d.]+) times as long', ratios[-1]
+
+
+def of_the_tests(repository):
+    """What iocsq/README says of iocsq/run-tests."""
+    name, tests = 'iocsq/README.md', repository.text('iocsq/run-tests')
+    for word, pattern in (('disagrees', r'a report, status (\d+)'), ('nothing', r'`nothing` \((\d+)'),
+                          ('policy', r'`policy` \((\d+)'), ('crash', r'`crash` \((\d+)')):
+        yield name, pattern, re.search(rf'\b{word}=(\d+)', tests)[1]
+    yield name, r'one of (\d+) seeds', re.search(r'seed <= (\d+);', tests)[1]
+    yield name, r'with up to (\d+) seeds', re.search(r'^    seeds=(\d+)$', tests, re.M)[1]
+
+
+def of_the_paper(repository):
+    """What PAPER and CITATION.cff take from other documents, and the schedules."""
+    protocol = repository.text('docs/PROTOCOL.md')
+    orders = re.search(r'Of the (\d+) orders with a wrong call (\d+) do harm', protocol)
+    once = re.search(r'(\w+) of the mistakes show in one order alone', protocol)
+    last_life = re.search(r'^last_life = 2 \^ (\d+) - 1$', repository.text('crates/irp_core/specs/Lives.antt'), re.M)
+    release = re.search(r'^## (\d\S*) \((.*)\)$', repository.text('CHANGELOG.md'), re.M)
+    yield 'docs/PAPER.md', r'a removal and a completion take (\d+) ns', figure(repository, 'insert, removal, completion', 1)
+    yield 'docs/PAPER.md', r'with (\w+) right schedules', schedules(repository, 'schedules')
+    yield 'docs/PAPER.md', r'schedules and (\w+) wrong ones', schedules(repository, 'schedules/wrong')
+    yield 'docs/PAPER.md', r'(\d+ of \d+) orders with a wrong call', f'{orders[2]} of {orders[1]}'
+    yield 'docs/PAPER.md', r'(\w+) of the mistakes in one order alone', once[1].lower()
+    yield 'docs/FAQ.md', r'has been used 2\^(\d+) times', last_life[1]
+    yield 'CITATION.cff', r'\nversion: (.*)', release[1]
+    yield 'CITATION.cff', r'\ndate-released: (.*)', release[2]
 
 
 def line_of(text, place):
@@ -104,7 +168,7 @@ def line_of(text, place):
 
 def checks(repository):
     """Whether each number is as it was counted: with its document, the line, and what is wrong."""
-    for rows in (of_the_proofs, of_the_programs, of_the_drivers):
+    for rows in (of_the_proofs, of_the_programs, of_the_drivers, of_the_costs, of_the_tests, of_the_paper):
         for name, pattern, wanted in rows(repository):
             text = repository.text(name)
             found = re.search(pattern, text)
@@ -114,7 +178,9 @@ def checks(repository):
         yield re.search(pattern, repository.text(name), re.M), repository.path(name), 1, f'has no line {pattern}'
     yield from checks_of_figures(repository)
     yield from checks_of_schedules(repository)
-    yield from checks_of_lines(repository)
+    yield from checks_of_lines(repository, 'docs/PROOFS.md')
+    yield from checks_of_lines(repository, 'docs/PAPER.md')
+    yield from checks_of_races(repository)
     yield from checks_of_budgets(repository)
 
 
@@ -129,19 +195,19 @@ def checks_of_figures(repository):
 
 
 def checks_of_schedules(repository):
-    """DRIVERS' table has each right driver once, in order. Its numbers are measured, and iocsq/run-tests counts the small
+    """IOCSQ's table has each right driver once, in order. Its numbers are measured, and iocsq/run-tests counts the small
     ones again."""
-    text, drivers = repository.text('docs/DRIVERS.md'), right_drivers(repository)
+    text, drivers = repository.text('docs/IOCSQ.md'), right_drivers(repository)
     rows = list(re.finditer(r'^\| (\w+/\w+) \| [1-3] \| \d+ \| \d+ \|$', text, re.M))
     for row, driver in zip(rows, drivers):
-        yield row[1] == driver, repository.path('docs/DRIVERS.md'), line_of(text, row.start()), f'is no row of {driver}'
-    yield len(rows) == len(drivers), repository.path('docs/DRIVERS.md'), 1, \
+        yield row[1] == driver, repository.path('docs/IOCSQ.md'), line_of(text, row.start()), f'is no row of {driver}'
+    yield len(rows) == len(drivers), repository.path('docs/IOCSQ.md'), 1, \
         f'has {len(rows)} rows of drivers in its table, and there are {len(drivers)}'
 
 
-def checks_of_lines(repository):
-    """The lines of Rattle, of definitions and of proofs that PROOFS names are those of the repository, to a twentieth."""
-    text, name = repository.text('docs/PROOFS.md'), repository.path('docs/PROOFS.md')
+def checks_of_lines(repository, document):
+    """The lines of Rattle, of definitions and of proofs that it names are those of the repository, to a twentieth."""
+    text, name = repository.text(document), repository.path(document)
     parts = {r'about ([\d,]+) lines of Rattle': r'crates/.*\.rt', r'([\d,]+) of definitions': r'crates/.*/specs/.*\.antt',
              r'([\d,]+) of written proofs': r'crates/.*/proofs/.*\.antt'}
     for pattern, files in parts.items():
@@ -149,6 +215,20 @@ def checks_of_lines(repository):
         said = int(found[1].replace(',', '')) if found else 0
         yield abs(said - count) * 20 <= count, name, line_of(text, found.start(1) if found else 0), \
             f'names another number of lines than the repository has: {count}'
+
+
+def checks_of_races(repository):
+    """TEACHING has each wrong order once, with the numbers of PROTOCOL's tables."""
+    text, name = repository.text('docs/TEACHING.md'), repository.path('docs/TEACHING.md')
+    protocol = repository.text('docs/PROTOCOL.md')
+    rows = re.findall(r'^\| `([a-z-]+)` \| \d+ \| \d+ \| (\d+) \| (\d+) \|$', protocol, re.M)
+    orders = re.search(r'^\| insert, cancel \| (\d+) \| \d+ \| (\d+) \|', protocol, re.M)
+    yield f'{orders[1]} and {orders[2]}: `docs/all-interleavings insert cancel`' in text, name, 1, \
+        f'doesn\'t say that an insert and a cancel have {orders[1]} orders, {orders[2]} of them completed by the cancel'
+    shown = list(re.finditer(r' \| `([a-z-]+)` \| (\d+) of (\d+) \| ', text))
+    for row in shown:
+        yield (row[1], row[3], row[2]) in rows, name, line_of(text, row.start()), 'has other numbers of orders than PROTOCOL'
+    yield len(shown) == len(rows), name, 1, f'has {len(shown)} wrong orders, and PROTOCOL has {len(rows)}'
 
 
 def checks_of_budgets(repository):

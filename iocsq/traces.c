@@ -1,7 +1,7 @@
 /* The order of touches in a run (traces.h). Each touch has a hash: of the thread's last touch and
  * of the object's. So no address is in it, and the sum over all threads' last ones is the same for
  * runs that differ in the order of independent touches alone. Two traces with one hash would hide a
- * class of schedules: docs/DRIVERS.md says how seldom. */
+ * class of schedules: docs/IOCSQ.md says how seldom. */
 #define _GNU_SOURCE
 #include "internal.h"
 #include "keys.h"
