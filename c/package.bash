@@ -83,12 +83,15 @@ csq_program() {
   fi
 }
 
-# Prints the page of csqsim to pack, which is the same for each target, or nothing: the one that page/build has made, if no
-# source is newer.
+# Prints the page of csqsim to pack, which is the same for each target, or nothing: the one that CSQ_PAGE names, or that
+# page/build has made, if no source is newer.
 csq_page() {
   local top=$1 page=$1/crates/csq_page/out/keuvatsi.html
   local sources=("$top/page" "$top/schedules" "$top/docs/harmful-orders")
-  if [[ -f $page && ! $(csq_newer "$top" "$page") && ! $(find "${sources[@]}" -newer "$page" -type f) ]]; then
+  if [[ ${CSQ_PAGE-} ]]; then
+    [[ -f $CSQ_PAGE ]] || csq_refuse "no page" "CSQ_PAGE is $CSQ_PAGE, which is no file"
+    echo "$CSQ_PAGE"
+  elif [[ -f $page && ! $(csq_newer "$top" "$page") && ! $(find "${sources[@]}" -newer "$page" -type f) ]]; then
     echo "$page"
   fi
 }

@@ -252,6 +252,7 @@ run_install() {
   expect "$name: soname and version" has_version "$prefix" "$version"
   expect "$name: all files are listed" listed "$prefix"
   expect "$name: csqsim beside what is proved alone" has_csqsim "$prefix" "$kit"
+  expect "$name: the page" cmp "$CSQ_PAGE" "$prefix/share/keuvatsi/keuvatsi.html"
   expect "$name: DESTDIR" staged "$@"
   expect "$name: c/dist, twice the same" dist_twice "$dist" "$origin" "$@"
   run_programs "$name, installed" "$prefix" "$version" "$kit" "$CC"
@@ -315,6 +316,7 @@ run_receipts() {
   expect "install: a receipt of another archive" unknown "${copies[@]}"
   csq_receipt "$kit" "logic=proved functions=1" "$folder/plain.a"
   CSQSIM=$folder/empty.a expect "install: no csqsim" refused "no csqsim" "$work/none" "$folder/plain.a"
+  CSQ_PAGE=$work/none.html expect "install: no page" refused "no page" "$work/none" --plain
   csq_receipt 'a "kit"' "logic=proved functions=1" "$folder/plain.a"
   expect "install: no line of a kit" refused "not a kit's line" "$work/none" "$folder/plain.a"
 }
@@ -356,7 +358,7 @@ page_is_newer_than_its_sources() {
   rm "$page" && [[ ! $(page_of "$built") ]]
 }
 # shellcheck disable=SC2016 # the parameters are that shell's
-page_of() { bash -c 'source "$1/c/package.bash" && csq_page "$2"' run-tests "$top" "$1"; }
+page_of() { env -u CSQ_PAGE bash -c 'source "$1/c/package.bash" && csq_page "$2"' run-tests "$top" "$1"; }
 # shellcheck disable=SC2016 # the parameters are that shell's
 program_of() { env -u CSQSIM bash -c 'source "$1/c/package.bash" && csq_program "$2"' run-tests "$top" "$1"; }
 
@@ -435,7 +437,9 @@ run_installs() {
   # A stand-in for csqsim.
   printf '#!/bin/sh\n' >"$programs/csqsim"
   chmod +x "$programs/csqsim"
-  local -x CSQSIM=$programs/csqsim
+  # And for the page, which another part of the gate may make meanwhile.
+  printf '<!doctype html>\n' >"$programs/page.html"
+  local -x CSQSIM=$programs/csqsim CSQ_PAGE=$programs/page.html
   expect "plain: c/install" "$top/c/install" "$installed" --plain
   part run_install plain "$installed" "Nothing of it is proved" "" --plain
   part run_archives "$@"
