@@ -118,8 +118,8 @@ def test_totals(program, results):
 
 
 def wrong_races(program, runs, least, options):
-    """So many runs at least have a completion of each kind. A machine that does something else beside them lets fewer
-    threads meet, so up to ten times the runs are made until there are so many."""
+    """At least this number of runs has a completion of each kind. A machine that does something else beside them lets fewer
+    threads meet, so up to ten times the runs are made until that is reached."""
     found = collections.Counter()
     for _ in range(10):
         got, _ = program.run(['run', '--totals', f'--repeat={runs}', *options])

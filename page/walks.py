@@ -110,7 +110,7 @@ class Told:
 
 
 def expected(csqsim, lines, stops, before):
-    """What is to be shown at each step, of which the first comes after so many lines."""
+    """What is to be shown at each step, of which the first comes after this number of lines."""
     whole = Told(csqsim, lines, stops)
     for line in range(before + 1, len(lines) + 1):
         told, is_last = Told(csqsim, lines[:line], stops), line == len(lines)

@@ -88,7 +88,7 @@ run_test() {
   count_lines "$variant" "$name" $?
 }
 
-# run_tests VARIANT TURNS QUEUES LARGEST COMPILER FLAG..: all tests, with so many turns of each thread, queues of races,
+# run_tests VARIANT TURNS QUEUES LARGEST COMPILER FLAG..: all tests, with this number of turns of each thread, queues of races,
 # and threads and lives of the largest queue.
 run_tests() {
   local variant=$1 turns=$2 queues=$3 largest=$4 name

@@ -1,5 +1,5 @@
 -- Where an answer lies that a page asked for.
-use Rattle.std.specs.Prelude.{◌≡◌, ℕ, Bool, false, List, Option, None, take, if◌then◌else◌, ⊤}
+use Rattle.std.specs.Prelude.{◌≡◌, ◌≤◌, ℕ, Bool, false, List, length, Option, None, take, if◌then◌else◌, ⊤}
 use Rattle.csq_replay.specs.declared.lines.answer.Ended.{Ended}
 use Rattle.csq_replay.specs.declared.lines.answer.Ended.TheVariants as ended
 use Rattle.csq_replay.specs.declared.lines.Ending.{Ending}
@@ -16,10 +16,14 @@ use Rattle.csq_page.specs.declared.codes.Code.{Code, TheVariants.{Handled, Stopp
 use Rattle.csq_page.specs.declared.hand_out.Lengths.{Lengths}
 use Rattle.csq_page.specs.Codes.{number_of}
 
--- if the code is one of an answer, that and its diagnosis lie in front in their places, in as many bytes as are told
+-- an answer that ended so and its diagnosis lie in front in their places, in as many bytes as are told
+abbrev pub IsInPlace : (List ℕ → List ℕ → Ended → Type 0) → List ℕ → List ℕ → Lengths → Ended → Type 0
+IsInPlace is text diagnosis lengths ended = (lengths.answer ≤ length text) × (lengths.diagnosis ≤ length diagnosis) × is (take lengths.answer text) (take lengths.diagnosis diagnosis) ended
+
+-- if the code is one of an answer, they do
 abbrev pub IsTold : (List ℕ → List ℕ → Ended → Type 0) → List ℕ → List ℕ → Lengths → Code → Type 0
-IsTold is text diagnosis lengths Handled = is (take lengths.answer text) (take lengths.diagnosis diagnosis) ended.AllHandled
-IsTold is text diagnosis lengths Stopped = is (take lengths.answer text) (take lengths.diagnosis diagnosis) ended.Stopped
+IsTold is text diagnosis lengths Handled = IsInPlace is text diagnosis lengths ended.AllHandled
+IsTold is text diagnosis lengths Stopped = IsInPlace is text diagnosis lengths ended.Stopped
 IsTold is text diagnosis lengths _ = ⊤
 
 -- what an export returned is the number of this code

@@ -34,6 +34,8 @@ pub(crate) fn hand_out<A: Allocator>(
         lengths.new.answer ≡ length (string_bytes report.text)) }
     ensures diagnosis_length { IfOk made (λ report.
         lengths.new.diagnosis ≡ length (string_bytes report.diagnosis)) }
+    ensures fits { IfOk made (λ report. ¬ (result ≡ Code.NoRoom)
+        → (lengths.new.answer ≤ length text.new) × (lengths.new.diagnosis ≤ length diagnosis.new)) }
     ensures room { IfOk made (λ report. result ≡ Code.NoRoom
         → (length text.old < length (string_bytes report.text))
         ⊎ (length diagnosis.old < length (string_bytes report.diagnosis))) }

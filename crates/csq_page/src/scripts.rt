@@ -1,9 +1,10 @@
 //! Scripts of calls.
-ghost use Rattle.std.specs.Prelude.{replicate};
-ghost use Rattle.csq_list.specs.Listing.{fresh};
+ghost use Rattle.std.specs.Prelude.{◌≡◌, ◌↔◌, replicate};
+ghost use Rattle.csq_list.specs.Listing.{IsListSize, fresh};
 ghost use Rattle.csq_words.specs.Queue.{limits_of};
 ghost use Rattle.csq_explain.specs.ExplainingCalls.{IsScriptText};
 ghost use Rattle.csq_diagnose.specs.Diagnoses.{IsScriptDiagnosis};
+ghost use Rattle.csq_page.specs.Codes.{number_of};
 ghost use Rattle.csq_page.specs.Answers.{Both, IsTold, Tells};
 
 use crate::codes::Code;
@@ -11,7 +12,7 @@ use crate::hand_out::{Lengths, hand_out};
 use csq_bump::{Bump, Memory};
 use csq_diagnose::report_script;
 use csq_list::VecList;
-use irp_core::{MAX_IRPS, SizeRefused};
+use irp_core::SizeRefused;
 use std::alloc::Allocator;
 
 /// Makes the calls of a script over a list of this number of IRPs and file objects, of which up to `limit` may be listed.
@@ -30,10 +31,8 @@ fn tell_script<A: Allocator + Copy>(
         (Both (IsScriptText explains (limits_of 1 0 (fresh irps files limit (replicate files irps))))
         IsScriptDiagnosis input.now)
         text.new diagnosis.new lengths.new result }
+    ensures bad_size { (result ≡ Code.BadSize) ↔ ¬ IsListSize irps files limit }
 {
-    if irps > MAX_IRPS {
-        return Code::BadSize;
-    }
     match VecList::new(alloc, irps, files, limit) {
         Ok(list) => {
             let made = report_script(alloc, list, explains, input);
@@ -61,6 +60,7 @@ pub extern "C" fn csq_page_script(
         (Both (IsScriptText explains (limits_of 1 0 (fresh irps files limit (replicate files irps))))
         IsScriptDiagnosis input.now)
         text.new diagnosis.new lengths.new result }
+    ensures bad_size { (result ≡ number_of Code.BadSize) ↔ ¬ IsListSize irps files limit }
 {
     let heap = Bump::new(memory);
     let code = tell_script(
